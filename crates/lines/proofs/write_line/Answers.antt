@@ -1,0 +1,13 @@
+-- The middle part that was lent holds the content; behind the last line nothing changed.
+use borrow.Author.Needs.{needs}
+use mathlib.Core.Path.{_≡_, refl, sym, _∙_, ap}
+use native.Mathlib.Omega.{arith}
+use Rattle.lines.specs.Lines.{restOf, withLine}
+use Rattle.lines.proofs.Rows.{with-rest, lent-middle}
+use Rattle.lines.proofs.write_line.Needs as need
+
+pub returns : need.returns
+returns c =
+    let after = lent-middle (c .args .bytes .now) (c .fill-line .last .part) (c .args .line) (c .args .content .now) (c .fill-line .ensures) (omega arith) in
+    let rest = with-rest (c .args .bytes .now) (c .args .line) (c .args .content .now) (c .told-content) in
+    record { after = after; rest = ap restOf after ∙ rest }

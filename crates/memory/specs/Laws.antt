@@ -1,0 +1,25 @@
+-- What a user of any kind of memory may rely on.
+use mathlib.Core.Path.{_≡_}
+use mathlib.Core.Bool.{Bool, true, false}
+use mathlib.Core.List.{List, []}
+use Prim.Native.Nat.{ℕ, _≤_, _<_}
+use lib.ListN.{length, getD, set}
+use Rattle.std.specs.declared.result.Result.{Result}
+use Rattle.std.specs.declared.result.Result.the-variants.{Ok, Err}
+use Rattle.memory.specs.declared.fault.MemoryFault.{MemoryFault}
+use Rattle.memory.specs.Meaning.{Line, Meaning, Durable, contentAt}
+
+-- A line that is written and fenced reads back after a cut and a power-up, whatever the cut did, and so does every
+-- other line: r is the read's answer.
+pub record Survives (m : Meaning) (l : ℕ) (c : Line) (k : ℕ) (r : Result Line MemoryFault) (m′ : Meaning) : Type 0 where
+  pub reads : l < length (m .lines) → m .on ≡ true → 2 ≤ m .left → r ≡ Ok c
+  pub lines : l < length (m .lines) → m .on ≡ true → 2 ≤ m .left → (j : ℕ) → contentAt m′ j ≡ getD (set (m .lines) l c) j []
+  pub honest : (x : Line) → r ≡ Ok x → x ≡ c
+
+-- A cut changes no durable line: r is what a read of line l then answers.
+pub record Outlasts (m : Meaning) (l k : ℕ) (r : Result Line MemoryFault) (m′ : Meaning) : Type 0 where
+  pub reads : l < length (m .lines) → Durable m l → r ≡ Ok (contentAt m l)
+  pub lines : (j : ℕ) → Durable m j → contentAt m′ j ≡ contentAt m j
+  pub count : length (m′ .lines) ≡ length (m .lines)
+  pub on : m′ .on ≡ true
+  pub left : m′ .left ≡ k
