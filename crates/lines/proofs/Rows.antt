@@ -10,7 +10,7 @@ use borrow.Author.Needs.{needs}
 use borrow.Author.Tests.{ltb-true, ltb-false, lt-ltb}
 use lib.Dec.{ltb}
 use lib.ListN.{length, getD, set, take, drop, length-set, length-take, length-drop, length-append}
-use Rattle.std.proofs.shelf.Lists.{places, same-lists, drop-at, take-at, length-take-le, getD-set-same, getD-set-other, getD-take, getD-drop}
+use Rattle.std.proofs.shelf.Lists.{places, same-lists, drop-at, take-at, length-take-le, getD-set-same, getD-set-other, getD-take, getD-drop, set-past}
 use Rattle.std.proofs.shelf.Tests.{cases-eq}
 use borrow.Rule.Slice.PartMut.{putMid, post-is}
 use Rattle.std.specs.declared.option.Option.{Option}
@@ -103,21 +103,16 @@ with-cases bs l c P yes′ no′ = go (ltb l (countOf bs)) refl
     go true e = yes′ (ltb-true l (countOf bs) e)
     go false e = no′ (ltb-false l (countOf bs) e)
 
-set-past : {A : Type 0} (xs : List A) (i : ℕ) (x : A) → length xs ≤ i → set xs i x ≡ xs
-set-past [] i x h = refl
-set-past (y ∷ xs) zero x h = absurd (not-suc-le-zero h)
-set-past (y ∷ xs) (suc i) x h = ap (λ ys. y ∷ ys) (set-past xs i x (le-of-suc-le-suc h))
+pub with-length : (bs : List ℕ) (l : ℕ) (c : Line) → (l < countOf bs → length c ≡ 64) → length (withLine bs l c) ≡ length bs
+with-length bs l c e = with-cases bs l c (λ x. length x ≡ length bs) (λ h. put-length bs l c (e h) h) (λ h. refl)
 
-pub with-length : (bs : List ℕ) (l : ℕ) (c : Line) → length c ≡ 64 → length (withLine bs l c) ≡ length bs
-with-length bs l c e = with-cases bs l c (λ x. length x ≡ length bs) (λ h. put-length bs l c e h) (λ h. refl)
-
-pub with-lines : (bs : List ℕ) (l : ℕ) (c : Line) → length c ≡ 64 → linesOf (withLine bs l c) ≡ set (linesOf bs) l c
+pub with-lines : (bs : List ℕ) (l : ℕ) (c : Line) → (l < countOf bs → length c ≡ 64) → linesOf (withLine bs l c) ≡ set (linesOf bs) l c
 with-lines bs l c e =
-    with-cases bs l c (λ x. linesOf x ≡ set (linesOf bs) l c) (λ h. put-lines bs l c e h)
+    with-cases bs l c (λ x. linesOf x ≡ set (linesOf bs) l c) (λ h. put-lines bs l c (e h) h)
       (λ h. sym (set-past (linesOf bs) l c (omega (arith, lines-length bs))))
 
-pub with-rest : (bs : List ℕ) (l : ℕ) (c : Line) → length c ≡ 64 → restOf (withLine bs l c) ≡ restOf bs
-with-rest bs l c e = with-cases bs l c (λ x. restOf x ≡ restOf bs) (λ h. put-rest bs l c e h) (λ h. refl)
+pub with-rest : (bs : List ℕ) (l : ℕ) (c : Line) → (l < countOf bs → length c ≡ 64) → restOf (withLine bs l c) ≡ restOf bs
+with-rest bs l c e = with-cases bs l c (λ x. restOf x ≡ restOf bs) (λ h. put-rest bs l c (e h) h) (λ h. refl)
 
 -- a line that is there is replaced by its content
 with-there : (bs : List ℕ) (l : ℕ) (c : Line) → l < countOf bs → withLine bs l c ≡ put bs l c

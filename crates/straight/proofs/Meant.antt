@@ -55,9 +55,9 @@ cuts-in bs (On n) = record { dark = λ e. absurd (grind arith); done = λ _. cut
 torn-in : (bs : List ℕ) (p : Power) (l : ℕ) (x : Line) → length x ≡ 64 → l < countOf bs → Cut (loosened (meaningIn bs p) l) (meaningIn (withLine bs l x) Off)
 torn-in bs p l x e h =
     record {
-      count = ap length (with-lines bs l x e) ∙ length-set (linesOf bs) l x
+      count = ap length (with-lines bs l x (λ _. e)) ∙ length-set (linesOf bs) l x
     ; kept = λ k d. kept k d (cases-eq k l)
-    ; whole = λ k low. lines-whole (withLine bs l x) k (omega (arith, ap length (with-lines bs l x e), length-set (linesOf bs) l x))
+    ; whole = λ k low. lines-whole (withLine bs l x) k (omega (arith, ap length (with-lines bs l x (λ _. e)), length-set (linesOf bs) l x))
     ; safe = all-durable (countOf (withLine bs l x))
     ; off = refl
     ; none = refl
@@ -69,7 +69,7 @@ torn-in bs p l x e h =
         let loose : getD (set (replicate (countOf bs) true) l false) l true ≡ false = getD-set-same (replicate (countOf bs) true) l false true low in
         let same : getD (set (replicate (countOf bs) true) l false) k true ≡ false = rw q loose in
         absurd (grind arith)
-    kept k d (inr n) = ap (λ (ls : List Line). getD ls k []) (with-lines bs l x e) ∙ getD-set-other (linesOf bs) l k x [] n
+    kept k d (inr n) = ap (λ (ls : List Line). getD ls k []) (with-lines bs l x (λ _. e)) ∙ getD-set-other (linesOf bs) l k x [] n
 
 module _ (bs : List ℕ) (p : Power) (l : ℕ) where
   pub read-none : lineAt bs l ≡ None → Reads (meaningIn bs p) l (Err (NoSuchLine l))
@@ -124,11 +124,11 @@ module _ (bs : List ℕ) (l : ℕ) (c : Line) (w : length c ≡ 64) where
     write-on Off p′ bs′ o q b = absurd (grind arith)
     write-on (On n) p′ bs′ o q b =
         rw (q, b) record {
-          did = write-done (linesOf bs) (linesOf (withLine bs l c)) (replicate (countOf bs) true) (replicate (countOf (withLine bs l c)) true) (On n) l c o (there bs (On n) l x e) (with-lines bs l c w) (λ k _ _. all-durable (countOf (withLine bs l c)) k)
+          did = write-done (linesOf bs) (linesOf (withLine bs l c)) (replicate (countOf bs) true) (replicate (countOf (withLine bs l c)) true) (On n) l c o (there bs (On n) l x e) (with-lines bs l c (λ _. w)) (λ k _ _. all-durable (countOf (withLine bs l c)) k)
         ; sound = sound-in (withLine bs l c) (spent (On n))
         ; bytes = rw o refl
         ; power = rw (lt-ltb l (countOf bs) low) refl
-        ; rest = with-rest bs l c w
+        ; rest = with-rest bs l c (λ _. w)
         }
 
     pub write-goes : (p p′ : Power) (bs′ : List ℕ) → isOn p ≡ true → suffices p ≡ false → p′ ≡ spent p → bs′ ≡ withLine bs l (torn x c) → WritesIn bs p l c (Err (NoPower Write l)) bs′ p′
@@ -141,7 +141,7 @@ module _ (bs : List ℕ) (l : ℕ) (c : Line) (w : length c ≡ 64) where
         ; sound = sound-in (withLine bs l (torn x c)) (spent (On n))
         ; bytes = rw s (ap (λ (y : Line). withLine bs l (torn y c)) same)
         ; power = rw (lt-ltb l (countOf bs) low) refl
-        ; rest = with-rest bs l (torn x c) long
+        ; rest = with-rest bs l (torn x c) (λ _. long)
         }
 
 -- all that the contract of a fence promises

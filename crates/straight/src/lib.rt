@@ -1,5 +1,5 @@
 // Straight memory: every completed write goes straight into the lent bytes, so every line is always durable.
-ghost use denote.Ref.{now};
+ghost use denote.Ref.{now, name};
 ghost use mathlib.Core.Path.{_≡_};
 ghost use lib.ListN.{length};
 ghost use Rattle.lines.specs.Lines.{lineAt, restOf};
@@ -27,6 +27,7 @@ impl<'a> Straight<'a> {
     pub fn new(bytes: &'a mut [u8]) -> Straight<'a>
         ensures bytes { λ r. ⌜ bytesIn r ≡ now (bytes .entry) ⌝ }
         ensures dark { λ r. ⌜ r .power ≡ Off ⌝ }
+        ensures lender { λ r. ⌜ name (r .bytes) ≡ name (bytes .entry) ⌝ }
     {
         Straight { bytes, power: Power::Off }
     }
@@ -70,6 +71,7 @@ pub impl<'a> Memory for Straight<'a> as StraightMemory {
         ensures bytes { λ _. ⌜ bytesIn (now (self .exit)) ≡ written (now (self .entry) .power) (bytesIn (now (self .entry))) line (now (content .entry)) ⌝ }
         ensures power { λ _. ⌜ now (self .exit) .power ≡ powerAfterWrite (now (self .entry) .power) (bytesIn (now (self .entry))) line ⌝ }
         ensures rest { λ _. ⌜ restOf (bytesIn (now (self .exit))) ≡ restOf (bytesIn (now (self .entry))) ⌝ }
+        ensures lender { λ _. ⌜ name (now (self .exit) .bytes) ≡ name (now (self .entry) .bytes) ⌝ }
     {
         let Some(old) = self.content(line) else {
             return Err(MemoryFault::NoSuchLine { line });
@@ -90,6 +92,7 @@ pub impl<'a> Memory for Straight<'a> as StraightMemory {
         ensures sound { λ _. ⌜ Sound (meant (now (self .exit))) ⌝ }
         ensures bytes { λ _. ⌜ bytesIn (now (self .exit)) ≡ bytesIn (now (self .entry)) ⌝ }
         ensures power { λ _. ⌜ now (self .exit) .power ≡ spent (now (self .entry) .power) ⌝ }
+        ensures lender { λ _. ⌜ name (now (self .exit) .bytes) ≡ name (now (self .entry) .bytes) ⌝ }
     {
         if self.power.spend() {
             return Ok(());
@@ -102,6 +105,7 @@ pub impl<'a> Memory for Straight<'a> as StraightMemory {
         ensures sound { λ _. ⌜ Sound (meant (now (self .exit))) ⌝ }
         ensures bytes { λ _. ⌜ bytesIn (now (self .exit)) ≡ bytesIn (now (self .entry)) ⌝ }
         ensures power { λ _. ⌜ now (self .exit) .power ≡ Off ⌝ }
+        ensures lender { λ _. ⌜ name (now (self .exit) .bytes) ≡ name (now (self .entry) .bytes) ⌝ }
     {
         self.power = Power::Off;
     }
@@ -111,6 +115,7 @@ pub impl<'a> Memory for Straight<'a> as StraightMemory {
         ensures sound { λ _. ⌜ Sound (meant (now (self .exit))) ⌝ }
         ensures bytes { λ _. ⌜ bytesIn (now (self .exit)) ≡ bytesIn (now (self .entry)) ⌝ }
         ensures power { λ _. ⌜ now (self .exit) .power ≡ On operations ⌝ }
+        ensures lender { λ _. ⌜ name (now (self .exit) .bytes) ≡ name (now (self .entry) .bytes) ⌝ }
     {
         self.power = Power::On { left: operations };
     }

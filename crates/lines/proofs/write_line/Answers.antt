@@ -9,5 +9,5 @@ use Rattle.lines.proofs.write_line.Needs as need
 pub returns : need.returns
 returns c =
     let after = lent-middle (c .args .bytes .now) (c .fill-line .last .part) (c .args .line) (c .args .content .now) (c .fill-line .ensures) (omega arith) in
-    let rest = with-rest (c .args .bytes .now) (c .args .line) (c .args .content .now) (c .told-content) in
+    let rest = with-rest (c .args .bytes .now) (c .args .line) (c .args .content .now) (λ _. c .told-content) in
     record { after = after; rest = ap restOf after ∙ rest }

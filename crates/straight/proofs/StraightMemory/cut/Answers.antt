@@ -7,5 +7,5 @@ pub returns : need.returns
 returns c =
     record {
       did = cuts-in (c .args .self .now .bytes .now) (c .args .self .now .power)
-    ; sound = sound-in (c .args .self .now .bytes .now) Off; bytes = refl; power = refl
+    ; sound = sound-in (c .args .self .now .bytes .now) Off; bytes = refl; power = refl; lender = refl
     }

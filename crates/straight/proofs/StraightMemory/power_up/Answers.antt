@@ -4,4 +4,4 @@ use Rattle.straight.proofs.Meant.{sound-in}
 use Rattle.straight.proofs.StraightMemory.power_up.Needs as need
 
 pub returns : need.returns
-returns c = record { did = refl; sound = sound-in (c .args .self .now .bytes .now) (On (c .args .operations)); bytes = refl; power = refl }
+returns c = record { did = refl; sound = sound-in (c .args .self .now .bytes .now) (On (c .args .operations)); bytes = refl; power = refl; lender = refl }
