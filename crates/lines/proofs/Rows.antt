@@ -69,17 +69,17 @@ module _ (bs : List ℕ) (l : ℕ) (c : Line) (e : length c ≡ 64) (h : l < cou
       let len : length (put bs l c) ≡ length bs = put-length in
       let g′ : k < countOf (put bs l c) = omega arith in
       same-lists _ _ (line-length (put bs l c) k g′ ∙ sym (line-length bs k g)) (λ j d lt.
-        let j64 : j < 64 = omega (arith, line-length (put bs l c) k g′) in
-        let away : l * 64 ≤ k * 64 + j → l * 64 + 64 ≤ k * 64 + j = λ le. omega arith in
-        line-byte (put bs l c) k j d j64 ∙ put-byte (k * 64 + j) d away ∙ sym (line-byte bs k j d j64))
+      let j64 : j < 64 = omega (arith, line-length (put bs l c) k g′) in
+      let away : l * 64 ≤ k * 64 + j → l * 64 + 64 ≤ k * 64 + j = λ le. omega arith in
+      line-byte (put bs l c) k j d j64 ∙ put-byte (k * 64 + j) d away ∙ sym (line-byte bs k j d j64))
 
   put-lines : linesOf (put bs l c) ≡ set (linesOf bs) l c
   put-lines =
       let len : length (put bs l c) ≡ length bs = put-length in
       same-lists _ _ (lines-length (put bs l c) ∙ ap (λ (n : ℕ). n / 64) len ∙ sym (lines-length bs) ∙ sym (length-set (linesOf bs) l c)) (λ k d lt.
-        let low : k < countOf (put bs l c) = omega (arith, lines-length (put bs l c)) in
-        let low′ : k < countOf bs = omega arith in
-        line-at (put bs l c) k d low ∙ at k d low′ (cases-eq k l))
+      let low : k < countOf (put bs l c) = omega (arith, lines-length (put bs l c)) in
+      let low′ : k < countOf bs = omega arith in
+      line-at (put bs l c) k d low ∙ at k d low′ (cases-eq k l))
     where
       at : (k : ℕ) (d : Line) → k < countOf bs → (k ≡ l) ⊎ (k ≢ l) → lineOf (put bs l c) k ≡ getD (set (linesOf bs) l c) k d
       at k d low (inl p) = rw p (put-here ∙ sym (getD-set-same (linesOf bs) l c d (omega (arith, lines-length bs))))
@@ -89,11 +89,11 @@ module _ (bs : List ℕ) (l : ℕ) (c : Line) (e : length c ≡ 64) (h : l < cou
   put-rest =
       let len : length (put bs l c) ≡ length bs = put-length in
       same-lists _ _ (simp length-drop (omega arith)) (λ j d lt.
-        let away : l * 64 ≤ countOf bs * 64 + j → l * 64 + 64 ≤ countOf bs * 64 + j = λ le. omega arith in
-        getD-drop (countOf (put bs l c) * 64) (put bs l c) j d
-        ∙ ap (λ (n : ℕ). getD (put bs l c) (n / 64 * 64 + j) d) len
-        ∙ put-byte (countOf bs * 64 + j) d away
-        ∙ sym (getD-drop (countOf bs * 64) bs j d))
+      let away : l * 64 ≤ countOf bs * 64 + j → l * 64 + 64 ≤ countOf bs * 64 + j = λ le. omega arith in
+      getD-drop (countOf (put bs l c) * 64) (put bs l c) j d
+      ∙ ap (λ (n : ℕ). getD (put bs l c) (n / 64 * 64 + j) d) len
+      ∙ put-byte (countOf bs * 64 + j) d away
+      ∙ sym (getD-drop (countOf bs * 64) bs j d))
 
 -- a line that is there is replaced, any other changes nothing
 with-cases : (bs : List ℕ) (l : ℕ) (c : Line) (P : List ℕ → Type 0) → (l < countOf bs → P (put bs l c)) → (countOf bs ≤ l → P bs) → P (withLine bs l c)
@@ -109,7 +109,7 @@ with-length bs l c e = with-cases bs l c (λ x. length x ≡ length bs) (λ h. p
 pub with-lines : (bs : List ℕ) (l : ℕ) (c : Line) → (l < countOf bs → length c ≡ 64) → linesOf (withLine bs l c) ≡ set (linesOf bs) l c
 with-lines bs l c e =
     with-cases bs l c (λ x. linesOf x ≡ set (linesOf bs) l c) (λ h. put-lines bs l c (e h) h)
-      (λ h. sym (set-past (linesOf bs) l c (omega (arith, lines-length bs))))
+    (λ h. sym (set-past (linesOf bs) l c (omega (arith, lines-length bs))))
 
 pub with-rest : (bs : List ℕ) (l : ℕ) (c : Line) → (l < countOf bs → length c ≡ 64) → restOf (withLine bs l c) ≡ restOf bs
 with-rest bs l c e = with-cases bs l c (λ x. restOf x ≡ restOf bs) (λ h. put-rest bs l c (e h) h) (λ h. refl)

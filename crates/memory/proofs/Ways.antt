@@ -36,8 +36,10 @@ module _ (ls : List Line) (ds : List Bool) (p : Power) (l : ℕ) where
     pub write-missing : length ls ≤ l → Writes (meaningOf ls ds p) l c (Err (NoSuchLine l)) (meaningOf ls ds p)
     write-missing h =
         record {
-          missing = λ _. (refl, refl); dark = λ a _. absurd (omega arith); lost = λ a _ _. absurd (omega arith)
-        ; done = λ a _ _. absurd (omega arith)
+          missing = λ _. (refl, refl);
+          dark = λ a _. absurd (omega arith);
+          lost = λ a _ _. absurd (omega arith);
+          done = λ a _ _. absurd (omega arith);
         }
 
 -- an operation that completes
@@ -46,10 +48,10 @@ write-done ls ls′ ds ds′ Off l c s h e k = absurd (grind arith)
 write-done ls ls′ ds ds′ (On n) l c s h e k =
     let pos : 0 < n = ltb-true 0 n s in
     rw (lt-ltb 0 n pos) record {
-      missing = λ a. absurd (omega arith)
-    ; dark = λ _ q. absurd (grind arith)
-    ; lost = λ _ _ z. absurd (omega arith)
-    ; done = λ _ _ _. (refl, record { content = e; kept = k; on = refl; spent = omega arith })
+      missing = λ a. absurd (omega arith);
+      dark = λ _ q. absurd (grind arith);
+      lost = λ _ _ z. absurd (omega arith);
+      done = λ _ _ _. (refl, record { content = e; kept = k; on = refl; spent = omega arith });
     }
 
 pub fence-done : (ls ls′ : List Line) (ds ds′ : List Bool) (p : Power) → suffices p ≡ true → ls′ ≡ ls → ((k : ℕ) → getD ds′ k true ≡ true) → Fences (meaningOf ls ds p) (Ok tt) (meaningOf ls′ ds′ (spent p))
@@ -57,40 +59,49 @@ fence-done ls ls′ ds ds′ Off s e k = absurd (grind arith)
 fence-done ls ls′ ds ds′ (On n) s e k =
     let pos : 0 < n = ltb-true 0 n s in
     rw (lt-ltb 0 n pos) record {
-      dark = λ q. absurd (grind arith)
-    ; lost = λ _ z. absurd (omega arith)
-    ; done = λ _ _. (refl, record { content = e; safe = k; on = refl; spent = omega arith })
+      dark = λ q. absurd (grind arith);
+      lost = λ _ z. absurd (omega arith);
+      done = λ _ _. (refl, record { content = e; safe = k; on = refl; spent = omega arith });
     }
 
 -- an operation at which power goes
-pub write-lost : (ls ls′ : List Line) (ds ds′ : List Bool) (p : Power) (l : ℕ) (c : Line) → isOn p ≡ true → suffices p ≡ false → l < length ls → Cut (loosened (meaningOf ls ds p) l) (meaningOf ls′ ds′ Off) → Writes (meaningOf ls ds p) l c (Err (NoPower Write l)) (meaningOf ls′ ds′ (spent p))
+pub spent-lost : (p : Power) → isOn p ≡ true → suffices p ≡ false → spent p ≡ Off
+spent-lost Off o s = refl
+spent-lost (On n) o s = rw s refl
+
+pub write-lost : (ls ls′ : List Line) (ds ds′ : List Bool) (p : Power) (l : ℕ) (c : Line) → isOn p ≡ true → suffices p ≡ false → l < length ls → Cut (loosened (meaningOf ls ds p) l) (meaningOf ls′ ds′ Off) → Writes (meaningOf ls ds p) l c (Err (NoPower Write l)) (meaningOf ls′ ds′ Off)
 write-lost ls ls′ ds ds′ Off l c o s h k = absurd (grind arith)
 write-lost ls ls′ ds ds′ (On n) l c o s h k =
     let none : n ≤ 0 = ltb-false 0 n s in
-    rw (le-ltb 0 n none) record {
-      missing = λ a. absurd (omega arith)
-    ; dark = λ _ q. absurd (grind arith)
-    ; lost = λ _ _ _. (refl, k)
-    ; done = λ _ _ z. absurd (omega arith)
+    record {
+      missing = λ a. absurd (omega arith);
+      dark = λ _ q. absurd (grind arith);
+      lost = λ _ _ _. (refl, k);
+      done = λ _ _ z. absurd (omega arith);
     }
 
-pub fence-lost : (ls ls′ : List Line) (ds ds′ : List Bool) (p : Power) → isOn p ≡ true → suffices p ≡ false → Cut (meaningOf ls ds p) (meaningOf ls′ ds′ Off) → Fences (meaningOf ls ds p) (Err (NoPower Fence 65535)) (meaningOf ls′ ds′ (spent p))
+pub fence-lost : (ls ls′ : List Line) (ds ds′ : List Bool) (p : Power) → isOn p ≡ true → suffices p ≡ false → Cut (meaningOf ls ds p) (meaningOf ls′ ds′ Off) → Fences (meaningOf ls ds p) (Err (NoPower Fence 65535)) (meaningOf ls′ ds′ Off)
 fence-lost ls ls′ ds ds′ Off o s k = absurd (grind arith)
 fence-lost ls ls′ ds ds′ (On n) o s k =
     let none : n ≤ 0 = ltb-false 0 n s in
-    rw (le-ltb 0 n none) record {
-      dark = λ q. absurd (grind arith); lost = λ _ _. (refl, k); done = λ _ z. absurd (omega arith)
-    }
+    record { dark = λ q. absurd (grind arith); lost = λ _ _. (refl, k); done = λ _ z. absurd (omega arith) }
 
 -- an operation with power off
-pub write-dark : (ls : List Line) (ds : List Bool) (p : Power) (l : ℕ) (c : Line) → isOn p ≡ false → l < length ls → Writes (meaningOf ls ds p) l c (Err (NoPower Write l)) (meaningOf ls ds (spent p))
-write-dark ls ds (On n) l c o h = absurd (grind arith)
-write-dark ls ds Off l c o h =
+pub write-dark : (ls : List Line) (ds : List Bool) (p : Power) (l : ℕ) (c : Line) → isOn p ≡ false → l < length ls → Writes (meaningOf ls ds p) l c (Err (NoPower Write l)) (meaningOf ls ds p)
+write-dark ls ds p l c o h =
     record {
-      missing = λ a. absurd (omega arith); dark = λ _ _. (refl, refl); lost = λ _ q _. absurd (grind arith)
-    ; done = λ _ q _. absurd (grind arith)
+      missing = λ a. absurd (omega arith);
+      dark = λ _ _. (refl, refl);
+      lost = λ _ q _. absurd (grind arith);
+      done = λ _ q _. absurd (grind arith);
     }
 
-pub fence-dark : (ls : List Line) (ds : List Bool) (p : Power) → isOn p ≡ false → Fences (meaningOf ls ds p) (Err (NoPower Fence 65535)) (meaningOf ls ds (spent p))
-fence-dark ls ds (On n) o = absurd (grind arith)
-fence-dark ls ds Off o = record { dark = λ _. (refl, refl); lost = λ q _. absurd (grind arith); done = λ q _. absurd (grind arith) }
+pub fence-dark : (ls : List Line) (ds : List Bool) (p : Power) → isOn p ≡ false → Fences (meaningOf ls ds p) (Err (NoPower Fence 65535)) (meaningOf ls ds p)
+fence-dark ls ds p o = record { dark = λ _. (refl, refl); lost = λ q _. absurd (grind arith); done = λ q _. absurd (grind arith) }
+
+-- a cut
+pub cut-dark : (ls : List Line) (ds : List Bool) (p : Power) → isOn p ≡ false → Cuts (meaningOf ls ds p) (meaningOf ls ds p)
+cut-dark ls ds p o = record { dark = λ _. refl; done = λ q. absurd (grind arith) }
+
+pub cut-done : (ls ls′ : List Line) (ds ds′ : List Bool) (p : Power) → isOn p ≡ true → Cut (meaningOf ls ds p) (meaningOf ls′ ds′ Off) → Cuts (meaningOf ls ds p) (meaningOf ls′ ds′ Off)
+cut-done ls ls′ ds ds′ p o k = record { dark = λ q. absurd (grind arith); done = λ _. k }

@@ -16,10 +16,10 @@ abbrev pub Line : Type 0
 Line = List ℕ
 
 pub record Meaning : Type 0 where
-  pub lines : List Line -- the content of each line, as a read gives it
-  pub durable : List Bool -- for each line, whether it is sure to keep its content at a cut
-  pub on : Bool -- power
-  pub left : ℕ -- operations that complete before power goes
+  pub lines : List Line  -- the content of each line, as a read gives it
+  pub durable : List Bool  -- for each line, whether it is sure to keep its content at a cut
+  pub on : Bool  -- power
+  pub left : ℕ  -- operations that complete before power goes
 
 -- line l keeps its content at a cut
 abbrev pub Durable : Meaning → ℕ → Type 0

@@ -71,8 +71,14 @@ pub impl fmt::Display for MemoryFault as MemoryFaultDisplay {
         let name = self.name();
         match *self {
             MemoryFault::NoSuchLine { line } => write!(f, "M{number} {name}: line {line}"),
-            MemoryFault::NoPower { operation: Operation::Write, line } => write!(f, "M{number} {name}: write of line {line}"),
-            MemoryFault::NoPower { operation: Operation::Fence, .. } => write!(f, "M{number} {name}: fence"),
+            MemoryFault::NoPower {
+                operation: Operation::Write,
+                line,
+            } => write!(f, "M{number} {name}: write of line {line}"),
+            MemoryFault::NoPower {
+                operation: Operation::Fence,
+                ..
+            } => write!(f, "M{number} {name}: fence"),
             MemoryFault::Unreadable { line } => write!(f, "M{number} {name}: read of line {line}"),
         }
     }

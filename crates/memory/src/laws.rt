@@ -6,7 +6,12 @@ use crate::Memory;
 use crate::MemoryFault;
 
 // Writes a line, fences, cuts, powers up again and reads the line: it reads back, whatever the cut did.
-pub fn write_fence_and_cut<M: Memory>(memory: &mut M, line: u16, content: &[u8; 64], operations: u32) -> Result<[u8; 64], MemoryFault>
+pub fn write_fence_and_cut<M: Memory>(
+    memory: &mut M,
+    line: u16,
+    content: &[u8; 64],
+    operations: u32,
+) -> Result<[u8; 64], MemoryFault>
     ensures { λ r. ⌜ Survives (M·Memory .meaning (now (memory .entry))) line (now (content .entry)) operations r (M·Memory .meaning (now (memory .exit))) ⌝ }
 {
     memory.write(line, content)?;
@@ -17,7 +22,11 @@ pub fn write_fence_and_cut<M: Memory>(memory: &mut M, line: u16, content: &[u8; 
 }
 
 // Cuts, powers up again and reads a line: no durable line was changed by the cut.
-pub fn read_after_cut<M: Memory>(memory: &mut M, line: u16, operations: u32) -> Result<[u8; 64], MemoryFault>
+pub fn read_after_cut<M: Memory>(
+    memory: &mut M,
+    line: u16,
+    operations: u32,
+) -> Result<[u8; 64], MemoryFault>
     ensures { λ r. ⌜ Outlasts (M·Memory .meaning (now (memory .entry))) line operations r (M·Memory .meaning (now (memory .exit))) ⌝ }
 {
     memory.cut();
@@ -26,7 +35,10 @@ pub fn read_after_cut<M: Memory>(memory: &mut M, line: u16, operations: u32) -> 
 }
 
 // Reads a line twice: both answers are the same, and the memory is as it was.
-pub fn read_twice<M: Memory>(memory: &mut M, line: u16) -> (Result<[u8; 64], MemoryFault>, Result<[u8; 64], MemoryFault>)
+pub fn read_twice<M: Memory>(
+    memory: &mut M,
+    line: u16,
+) -> (Result<[u8; 64], MemoryFault>, Result<[u8; 64], MemoryFault>)
     ensures alike { λ r. ⌜ r .0 ≡ r .1 ⌝ }
     ensures same { λ _. ⌜ now (memory .exit) ≡ now (memory .entry) ⌝ }
 {

@@ -13,6 +13,7 @@ pub use laws::read_twice;
 pub use laws::write_fence_and_cut;
 pub use lent::LentMemory;
 pub use power::Power;
+
 mod fault;
 mod laws;
 mod lent;

@@ -29,7 +29,10 @@ impl<'a> Straight<'a> {
         ensures dark { λ r. ⌜ r .power ≡ Off ⌝ }
         ensures lender { λ r. ⌜ name (r .bytes) ≡ name (bytes .entry) ⌝ }
     {
-        Straight { bytes, power: Power::Off }
+        Straight {
+            bytes,
+            power: Power::Off,
+        }
     }
 
     // What stands in a line, if there is such a line, with power on or off.
@@ -84,7 +87,10 @@ pub impl<'a> Memory for Straight<'a> as StraightMemory {
         if was_on {
             write_line(self.bytes, line, &torn_line(&old, content));
         }
-        Err(MemoryFault::NoPower { operation: Operation::Write, line })
+        Err(MemoryFault::NoPower {
+            operation: Operation::Write,
+            line,
+        })
     }
 
     fn fence(&mut self) -> Result<(), MemoryFault>
@@ -97,7 +103,10 @@ pub impl<'a> Memory for Straight<'a> as StraightMemory {
         if self.power.spend() {
             return Ok(());
         }
-        Err(MemoryFault::NoPower { operation: Operation::Fence, line: 65535 })
+        Err(MemoryFault::NoPower {
+            operation: Operation::Fence,
+            line: 65535,
+        })
     }
 
     fn cut(&mut self)

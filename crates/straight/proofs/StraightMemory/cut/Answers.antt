@@ -6,6 +6,9 @@ use Rattle.straight.proofs.StraightMemory.cut.Needs as need
 pub returns : need.returns
 returns c =
     record {
-      did = cuts-in (c .args .self .now .bytes .now) (c .args .self .now .power)
-    ; sound = sound-in (c .args .self .now .bytes .now) Off; bytes = refl; power = refl; lender = refl
+      did = cuts-in (c .args .self .now .bytes .now) (c .args .self .now .power);
+      sound = sound-in (c .args .self .now .bytes .now) Off;
+      bytes = refl;
+      power = refl;
+      lender = refl;
     }

@@ -8,9 +8,9 @@ returns-in-rest c = read-none (c .args .self .now .bytes .now) (c .args .self .n
 pub returns-then-not-is-on : need.returns-then-not-is-on
 returns-then-not-is-on c =
     read-off (c .args .self .now .bytes .now) (c .args .self .now .power) (c .args .line) (c .in-Some .content)
-      (sym (c .in-Some .ensures tt)) (sym (c .if-not-is-on .ensures tt))
+    (sym (c .in-Some .ensures tt)) (sym (c .if-not-is-on .ensures tt))
 
 pub returns : need.returns
 returns c =
     read-on (c .args .self .now .bytes .now) (c .args .self .now .power) (c .args .line) (c .in-Some .content)
-      (sym (c .in-Some .ensures tt)) (sym (c .if-not-is-on .ensures tt))
+    (sym (c .in-Some .ensures tt)) (sym (c .if-not-is-on .ensures tt))
