@@ -1,0 +1,9 @@
+// Tests of the two kinds of memory at their edges.
+#[cfg(test)]
+mod power;
+#[cfg(test)]
+mod queue;
+#[cfg(test)]
+mod shapes;
+#[cfg(test)]
+mod words;
