@@ -25,12 +25,12 @@ pub fn write_fence_and_cut<M: Memory>(
 pub fn read_after_cut<M: Memory>(
     memory: &mut M,
     line: u16,
-    operations: u32,
+    left: u32,
 ) -> Result<[u8; 64], MemoryFault>
-    ensures { λ r. ⌜ Outlasts (M·Memory .meaning (now (memory .entry))) line operations r (M·Memory .meaning (now (memory .exit))) ⌝ }
+    ensures { λ r. ⌜ Outlasts (M·Memory .meaning (now (memory .entry))) line left r (M·Memory .meaning (now (memory .exit))) ⌝ }
 {
     memory.cut();
-    memory.power_up(operations);
+    memory.power_up(left);
     memory.read(line)
 }
 

@@ -19,9 +19,6 @@ pub use laws::read_twice;
 pub use laws::write_fence_and_cut;
 pub use lent::LentMemory;
 pub use power::Power;
-pub use power::PowerDebug;
-pub use power::PowerEq;
-pub use power::PowerPartialEq;
 
 mod fault;
 mod laws;

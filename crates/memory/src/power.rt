@@ -3,7 +3,7 @@ ghost use mathlib.Core.Path.{_≡_};
 ghost use Rattle.memory.specs.Power.{isOn, leftIn, suffices, spent};
 
 // Off, or on with some operations left. Off there are none left.
-#[derive(Clone, Copy, PartialEq, Eq, Debug)]
+#[derive(Clone, Copy)]
 pub enum Power {
     Off,
     On { left: u32 },

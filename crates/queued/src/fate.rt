@@ -6,7 +6,7 @@ ghost use lib.ListN.{length};
 ghost use Rattle.queued.specs.Fates.{fateAt, survivor};
 use lines::torn_line;
 
-#[derive(Clone, Copy, PartialEq, Eq, Debug)]
+#[derive(Clone, Copy)]
 pub enum Fate {
     Old,
     New,
