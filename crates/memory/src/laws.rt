@@ -1,6 +1,7 @@
 // What a user of any kind of memory may rely on, each shown of a function that does it.
 ghost use mathlib.Core.Path.{_≡_};
 ghost use Rattle.memory.specs.Laws.{Survives, Outlasts};
+ghost use Rattle.memory.specs.Meaning.{Reads};
 use crate::LentMemory;
 use crate::Memory;
 use crate::MemoryFault;
@@ -39,6 +40,7 @@ pub fn read_twice<M: Memory>(
     memory: &mut M,
     line: u16,
 ) -> (Result<[u8; 64], MemoryFault>, Result<[u8; 64], MemoryFault>)
+    ensures reads { λ r. ⌜ Reads (M·Memory .meaning (now (memory .entry))) line (r .0) ⌝ }
     ensures alike { λ r. ⌜ r .0 ≡ r .1 ⌝ }
     ensures same { λ _. ⌜ now (memory .exit) ≡ now (memory .entry) ⌝ }
 {
