@@ -2,6 +2,7 @@
 ghost use mathlib.Core.Path.{_≡_};
 ghost use Rattle.std.specs.declared.option.Option.the-variants.{Some};
 ghost use Rattle.memory.specs.Faults.{operationName, faultNumber, faultName, faultText};
+use std::error;
 use std::fmt;
 
 #[derive(Clone, Copy, PartialEq, Eq, Debug)]
@@ -83,3 +84,5 @@ pub impl fmt::Display for MemoryFault as MemoryFaultDisplay {
         }
     }
 }
+
+pub impl error::Error for MemoryFault as MemoryFaultError {}

@@ -8,6 +8,7 @@ pub use fault::MemoryFault;
 pub use fault::MemoryFaultDebug;
 pub use fault::MemoryFaultDisplay;
 pub use fault::MemoryFaultEq;
+pub use fault::MemoryFaultError;
 pub use fault::MemoryFaultPartialEq;
 pub use fault::Operation;
 pub use fault::OperationDebug;

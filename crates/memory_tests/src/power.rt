@@ -11,8 +11,15 @@ use std::test::*;
 use straight::Straight;
 use straight::StraightMemory;
 
-const NO_WRITE: Result<(), MemoryFault> = Err(MemoryFault::NoPower { operation: Operation::Write, line: 1 });
-const NO_FENCE: Result<(), MemoryFault> = Err(MemoryFault::NoPower { operation: Operation::Fence, line: 65535 });
+const NO_WRITE: Result<(), MemoryFault> = Err(MemoryFault::NoPower {
+    operation: Operation::Write,
+    line: 1,
+});
+
+const NO_FENCE: Result<(), MemoryFault> = Err(MemoryFault::NoPower {
+    operation: Operation::Fence,
+    line: 65535,
+});
 
 // A memory just made, with power off: everything is declined, and a missing line comes before the power.
 fn declines_while_off<M: Memory>(memory: &mut M) -> Result<(), Fail> {
@@ -22,7 +29,10 @@ fn declines_while_off<M: Memory>(memory: &mut M) -> Result<(), Fail> {
     check_eq(memory.write(1, &[7; 64]), NO_WRITE)?;
     check_eq(memory.fence(), NO_FENCE)?;
     check_eq(memory.read(2), Err(MemoryFault::NoSuchLine { line: 2 }))?;
-    check_eq(memory.write(2, &[7; 64]), Err(MemoryFault::NoSuchLine { line: 2 }))?;
+    check_eq(
+        memory.write(2, &[7; 64]),
+        Err(MemoryFault::NoSuchLine { line: 2 }),
+    )?;
     memory.cut();
     memory.power_up(0);
     check_eq(memory.read(1), Ok([1; 64])).note("a cut while off changes nothing")
@@ -33,7 +43,10 @@ fn loses_power_at_a_fence<M: Memory>(memory: &mut M) -> Result<(), Fail> {
     memory.power_up(0);
     check_eq(memory.is_on(), true)?;
     check_eq(memory.read(1), Ok([1; 64]))?;
-    check_eq(memory.write(2, &[7; 64]), Err(MemoryFault::NoSuchLine { line: 2 }))?;
+    check_eq(
+        memory.write(2, &[7; 64]),
+        Err(MemoryFault::NoSuchLine { line: 2 }),
+    )?;
     check_eq(memory.is_on(), true)?;
     check_eq(memory.fence(), NO_FENCE)?;
     check_eq(memory.is_on(), false)

@@ -29,8 +29,16 @@ fn every_fate_at_every_place() -> Result<(), Fail> {
             drop(memory);
             let at = place as usize * 64;
             let new = (place as u8).wrapping_add(100);
-            let front = match fate { 0 => 0, 3 => 165, _ => new };
-            let back = match fate { 1 => new, 3 => 165, _ => 0 };
+            let front = match fate {
+                0 => 0,
+                3 => 165,
+                _ => new
+            };
+            let back = match fate {
+                1 => new,
+                3 => 165,
+                _ => 0
+            };
             check(bytes[at..at + 32] == [front; 32])?;
             check(bytes[at + 32..at + 64] == [back; 32])?;
             check(bytes[0..at].iter().copied().max().unwrap_or(0) == 0)?;
@@ -132,5 +140,8 @@ fn line_65535(rt: LibcRuntime) -> Result<(), Fail> {
     drop(memory);
     let mut few = [0; 64];
     let memory = Queued::new(&mut few, 1);
-    check_eq(memory.read(65535), Err(MemoryFault::NoSuchLine { line: 65535 }))
+    check_eq(
+        memory.read(65535),
+        Err(MemoryFault::NoSuchLine { line: 65535 }),
+    )
 }

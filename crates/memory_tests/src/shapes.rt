@@ -28,10 +28,19 @@ fn has_no_line<M: Memory>(memory: &mut M) -> Result<(), Fail> {
     check_eq(memory.line_count(), 0)?;
     check_eq(memory.read(0), Err(MemoryFault::NoSuchLine { line: 0 }))?;
     memory.power_up(1);
-    check_eq(memory.write(0, &[7; 64]), Err(MemoryFault::NoSuchLine { line: 0 }))?;
+    check_eq(
+        memory.write(0, &[7; 64]),
+        Err(MemoryFault::NoSuchLine { line: 0 }),
+    )?;
     check_eq(memory.operations_left(), 1)?;
     check_eq(memory.fence(), Ok(()))?;
-    check_eq(memory.fence(), Err(MemoryFault::NoPower { operation: Operation::Fence, line: 65535 }))?;
+    check_eq(
+        memory.fence(),
+        Err(MemoryFault::NoPower {
+            operation: Operation::Fence,
+            line: 65535,
+        }),
+    )?;
     check_eq(memory.is_on(), false)
 }
 
@@ -64,5 +73,8 @@ fn a_rest_of_63_bytes() -> Result<(), Fail> {
     keeps_line_0(&mut Queued::new(&mut bytes, 4294967295))?;
     check(bytes[64..127] == [9; 63])?;
     check_eq(Straight::new(&mut bytes).line_count(), 1)?;
-    check_eq(Straight::new(&mut bytes).read(1), Err(MemoryFault::NoSuchLine { line: 1 }))
+    check_eq(
+        Straight::new(&mut bytes).read(1),
+        Err(MemoryFault::NoSuchLine { line: 1 }),
+    )
 }

@@ -7,8 +7,14 @@ use std::test::*;
 #[test]
 fn faults_in_words(rt: LibcRuntime) -> Result<(), Fail> {
     let missing = MemoryFault::NoSuchLine { line: 70 };
-    let write = MemoryFault::NoPower { operation: Operation::Write, line: 3 };
-    let fence = MemoryFault::NoPower { operation: Operation::Fence, line: 65535 };
+    let write = MemoryFault::NoPower {
+        operation: Operation::Write,
+        line: 3,
+    };
+    let fence = MemoryFault::NoPower {
+        operation: Operation::Fence,
+        line: 65535,
+    };
     let read = MemoryFault::Unreadable { line: 5 };
     check_eq(missing.number(), 1)?;
     check_eq(write.number(), 2)?;

@@ -15,14 +15,12 @@ ghost use Rattle.queued.specs.Below.{moved};
 ghost use Rattle.queued.specs.Queued.{partsOf, meant, darkened, roomy, entered, drained, afterWrite, afterFence, afterCut, afterPowerUp};
 use below::cut_down;
 use below::move_down;
-pub use fate::Fate;
 use lines::line_count;
 use lines::read_line;
 use lines::write_line;
 use memory::Memory;
 use memory::MemoryFault;
 use memory::Operation;
-pub use slot::Slot;
 use volatile::Volatile;
 
 mod below;

@@ -34,6 +34,10 @@ all-durable zero k = refl
 all-durable (suc n) zero = refl
 all-durable (suc n) (suc k) = all-durable n k
 
+-- every line is durable, always
+pub durable-in : (bs : List ℕ) (p : Power) (l : ℕ) → Durable (meaningIn bs p) l
+durable-in bs p l = all-durable (countOf bs) l
+
 pub sound-in : (bs : List ℕ) (p : Power) → Sound (meaningIn bs p)
 sound-in bs p =
     sound-kind (linesOf bs) (replicate (countOf bs) true) p (length-replicate (countOf bs) true ∙ sym (lines-length bs))

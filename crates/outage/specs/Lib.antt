@@ -1,0 +1,5 @@
+pub mod Story
+pub mod Content
+pub mod History
+pub mod Run
+pub mod Words
