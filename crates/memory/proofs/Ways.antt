@@ -6,7 +6,7 @@ use Prim.Native.Nat.{ℕ, _+_, _-_, _≤_, _<_}
 use native.Mathlib.Omega.{arith}
 use borrow.Author.Tests.{ltb-true, ltb-false, lt-ltb, le-ltb}
 use lib.Dec.{ltb}
-use lib.ListN.{length, getD, set}
+use lib.ListN.{length, getD, set, length-set}
 use Rattle.std.specs.declared.result.Result.{Result}
 use Rattle.std.specs.declared.result.Result.the-variants.{Ok, Err}
 use Rattle.memory.specs.declared.fault.MemoryFault.{MemoryFault}
@@ -36,6 +36,7 @@ module _ (ls : List Line) (ds : List Bool) (p : Power) (l : ℕ) where
     pub write-missing : length ls ≤ l → Writes (meaningOf ls ds p) l c (Err (NoSuchLine l)) (meaningOf ls ds p)
     write-missing h =
         record {
+          count = refl;
           missing = λ _. (refl, refl);
           dark = λ a _. absurd (omega arith);
           lost = λ a _ _. absurd (omega arith);
@@ -48,6 +49,7 @@ write-done ls ls′ ds ds′ Off l c s h e k = absurd (grind arith)
 write-done ls ls′ ds ds′ (On n) l c s h e k =
     let pos : 0 < n = ltb-true 0 n s in
     rw (lt-ltb 0 n pos) record {
+      count = ap length e ∙ length-set ls l c;
       missing = λ a. absurd (omega arith);
       dark = λ _ q. absurd (grind arith);
       lost = λ _ _ z. absurd (omega arith);
@@ -59,6 +61,7 @@ fence-done ls ls′ ds ds′ Off s e k = absurd (grind arith)
 fence-done ls ls′ ds ds′ (On n) s e k =
     let pos : 0 < n = ltb-true 0 n s in
     rw (lt-ltb 0 n pos) record {
+      count = ap length e;
       dark = λ q. absurd (grind arith);
       lost = λ _ z. absurd (omega arith);
       done = λ _ _. (refl, record { content = e; safe = k; on = refl; spent = omega arith });
@@ -74,6 +77,7 @@ write-lost ls ls′ ds ds′ Off l c o s h k = absurd (grind arith)
 write-lost ls ls′ ds ds′ (On n) l c o s h k =
     let none : n ≤ 0 = ltb-false 0 n s in
     record {
+      count = k .count;
       missing = λ a. absurd (omega arith);
       dark = λ _ q. absurd (grind arith);
       lost = λ _ _ _. (refl, k);
@@ -84,12 +88,13 @@ pub fence-lost : (ls ls′ : List Line) (ds ds′ : List Bool) (p : Power) → i
 fence-lost ls ls′ ds ds′ Off o s k = absurd (grind arith)
 fence-lost ls ls′ ds ds′ (On n) o s k =
     let none : n ≤ 0 = ltb-false 0 n s in
-    record { dark = λ q. absurd (grind arith); lost = λ _ _. (refl, k); done = λ _ z. absurd (omega arith) }
+    record { count = k .count; dark = λ q. absurd (grind arith); lost = λ _ _. (refl, k); done = λ _ z. absurd (omega arith) }
 
 -- an operation with power off
 pub write-dark : (ls : List Line) (ds : List Bool) (p : Power) (l : ℕ) (c : Line) → isOn p ≡ false → l < length ls → Writes (meaningOf ls ds p) l c (Err (NoPower Write l)) (meaningOf ls ds p)
 write-dark ls ds p l c o h =
     record {
+      count = refl;
       missing = λ a. absurd (omega arith);
       dark = λ _ _. (refl, refl);
       lost = λ _ q _. absurd (grind arith);
@@ -97,11 +102,11 @@ write-dark ls ds p l c o h =
     }
 
 pub fence-dark : (ls : List Line) (ds : List Bool) (p : Power) → isOn p ≡ false → Fences (meaningOf ls ds p) (Err (NoPower Fence 65535)) (meaningOf ls ds p)
-fence-dark ls ds p o = record { dark = λ _. (refl, refl); lost = λ q _. absurd (grind arith); done = λ q _. absurd (grind arith) }
+fence-dark ls ds p o = record { count = refl; dark = λ _. (refl, refl); lost = λ q _. absurd (grind arith); done = λ q _. absurd (grind arith) }
 
 -- a cut
 pub cut-dark : (ls : List Line) (ds : List Bool) (p : Power) → isOn p ≡ false → Cuts (meaningOf ls ds p) (meaningOf ls ds p)
-cut-dark ls ds p o = record { dark = λ _. refl; done = λ q. absurd (grind arith) }
+cut-dark ls ds p o = record { count = refl; dark = λ _. refl; done = λ q. absurd (grind arith) }
 
 pub cut-done : (ls ls′ : List Line) (ds ds′ : List Bool) (p : Power) → isOn p ≡ true → Cut (meaningOf ls ds p) (meaningOf ls′ ds′ Off) → Cuts (meaningOf ls ds p) (meaningOf ls′ ds′ Off)
-cut-done ls ls′ ds ds′ p o k = record { dark = λ q. absurd (grind arith); done = λ _. k }
+cut-done ls ls′ ds ds′ p o k = record { count = k .count; dark = λ q. absurd (grind arith); done = λ _. k }
