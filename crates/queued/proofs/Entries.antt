@@ -1,6 +1,6 @@
 -- The entries of the queue: entering, renewing in place, taking the oldest out, finding the newest.
 use mathlib.Core.Path.{_≡_, refl, sym, _∙_, ap}
-use mathlib.Core.Bool.{Bool, true, false, cond, _||_}
+use mathlib.Core.Bool.{Bool, true, false, cond, not, _||_, _&&_}
 use mathlib.Core.List.{List, [], _∷_, _++_, map}
 use mathlib.Core.Logic.{_≢_, _⊎_, inl, inr}
 use Prim.Native.Nat.{ℕ, zero, suc, _+_, _-_, _≤_, _<_}
@@ -17,7 +17,16 @@ use Rattle.std.specs.declared.option.Option.{Option}
 use Rattle.std.specs.declared.option.Option.the-variants.{Some, None}
 use Rattle.lines.specs.Lines.{Line}
 use Rattle.queued.specs.declared.slot.Slot.{Slot}
-use Rattle.queued.specs.Slots.{slot, Whole, isQueued, newest, renewed}
+use Rattle.queued.specs.Slots.{slot, Whole, isQueued, distinct, newest, renewed}
+
+-- a test that is false is false in both parts
+pub or-left : (a b : Bool) → (a || b) ≡ false → a ≡ false
+or-left false b e = refl
+or-left true b e = e
+
+pub or-right : (a b : Bool) → (a || b) ≡ false → b ≡ false
+or-right false b e = e
+or-right true b e = absurd (grind arith)
 
 or-true : (b : Bool) → (b || (true || false)) ≡ true
 or-true true = refl
@@ -156,3 +165,39 @@ whole-renewed l c xs ys n w e h =
 
 pub length-renewed : (l : ℕ) (c : Line) (xs ys : List Slot) (n : ℕ) → ys ≡ part l c xs n → length ys ≡ length xs
 length-renewed l c xs ys n e = ap length e ∙ simp (length-append, length-map, length-take, length-drop) (omega arith)
+
+-- renewing leaves every line in its place
+renewed-line : (l : ℕ) (c : Line) (e : Slot) → renewed l c e .line ≡ e .line
+renewed-line l c e = go (cases-eq (e .line) l)
+  where
+    go : (e .line ≡ l) ⊎ (e .line ≢ l) → cond (eqb (e .line) l) (slot l c) e .line ≡ e .line
+    go (inl q) = rw (eq-eqb (e .line) l q) (sym q)
+    go (inr n) = rw (ne-eqb (e .line) l n) refl
+
+pub queued-renewed : (l : ℕ) (c : Line) (es : List Slot) (k : ℕ) → isQueued (map (renewed l c) es) k ≡ isQueued es k
+queued-renewed l c [] k = refl
+queued-renewed l c (e ∷ es) k = rw (renewed-line l c e, queued-renewed l c es k) refl
+
+-- no line is queued twice, and so it stays
+pub distinct-renewed : (l : ℕ) (c : Line) (es : List Slot) → distinct (map (renewed l c) es) ≡ distinct es
+distinct-renewed l c [] = refl
+distinct-renewed l c (e ∷ es) = rw (queued-renewed l c es (renewed l c e .line), renewed-line l c e, distinct-renewed l c es) refl
+
+pub distinct-tail : (e : Slot) (es : List Slot) → distinct (e ∷ es) ≡ true → distinct es ≡ true
+distinct-tail e es h = go (isQueued es (e .line)) h
+  where
+    go : (b : Bool) → (not b && distinct es) ≡ true → distinct es ≡ true
+    go true q = absurd (grind arith)
+    go false q = q
+
+pub distinct-push : (es : List Slot) (l : ℕ) (c : Line) → isQueued es l ≡ false → distinct es ≡ true → distinct (es ++ (slot l c ∷ [])) ≡ true
+distinct-push [] l c out h = refl
+distinct-push (e ∷ es) l c out h =
+    let other : eqb (e .line) l ≡ false = or-left (eqb (e .line) l) (isQueued es l) out in
+    let ne : l ≢ e .line = λ q. let t : eqb (e .line) l ≡ true = eq-eqb (e .line) l (sym q) in absurd (grind arith) in
+    let here : isQueued (es ++ (slot l c ∷ [])) (e .line) ≡ isQueued es (e .line) = queued-++ es (slot l c ∷ []) (e .line) ∙ rw (ne-eqb l (e .line) ne) (or-false (isQueued es (e .line))) in
+    rw (here, distinct-push es l c (or-right (eqb (e .line) l) (isQueued es l) out) (distinct-tail e es h)) (head (isQueued es (e .line)) h)
+  where
+    head : (b : Bool) → (not b && distinct es) ≡ true → (not b && true) ≡ true
+    head true q = absurd (grind arith)
+    head false q = refl

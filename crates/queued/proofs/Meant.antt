@@ -29,11 +29,11 @@ use Rattle.memory.specs.Meaning.{Meaning, Durable, contentAt, Sound, Cut, loose
 use Rattle.memory.proofs.Ways.{sound-kind, read-missing, read-dark, read-done, write-missing, write-dark, write-lost, write-done, fence-dark, fence-lost, fence-done, cut-dark, cut-done}
 use Rattle.queued.specs.declared.slot.Slot.{Slot}
 use Rattle.queued.specs.declared.Queued.{Queued}
-use Rattle.queued.specs.Slots.{slot, isQueued, newest, renewed}
+use Rattle.queued.specs.Slots.{slot, isQueued, distinct, newest, renewed}
 use Rattle.queued.specs.Below.{overlaid, moved, cutDown}
 use Rattle.queued.specs.Queued.{Parts, partsOf, meaningIn, meant, darkened, operated, renewing, roomy, entering, entered, drained, afterWrite, afterFence, afterCut}
-use Rattle.queued.proofs.Entries.{Full, all-of-whole, queued-++}
-use Rattle.queued.proofs.Overlaid.{overlaid-none, or-left, or-right, overlaid-length, overlaid-whole, overlaid-other, overlaid-newest, moved-length, moved-lines, moved-rest, cut-length, cut-rest, cut-other, queued-renewed, overlaid-renewed, overlaid-entered}
+use Rattle.queued.proofs.Entries.{Full, or-left, or-right, all-of-whole, queued-++, queued-renewed}
+use Rattle.queued.proofs.Overlaid.{overlaid-none, overlaid-length, overlaid-whole, overlaid-other, overlaid-newest, moved-length, moved-lines, moved-rest, cut-length, cut-rest, cut-other, overlaid-renewed, overlaid-entered}
 
 -- which of the first n lines are durable
 abbrev marks : List Slot → ℕ → List Bool
@@ -293,6 +293,9 @@ room-there s h = let z : length (s .queue) - 15 ≡ 0 = omega arith in rw z refl
 pub room-length : (s : Parts) → length (s .queue) ≤ 16 → length (roomy s .queue) < 16
 room-length s h = simp length-drop (omega arith)
 
+pub room-out : (s : Parts) (l : ℕ) → isQueued (s .queue) l ≡ false → isQueued (roomy s .queue) l ≡ false
+room-out s l e = queued-drop (length (s .queue) - 15) (s .queue) l e
+
 pub renew-parts : (s : Parts) (l : ℕ) (c : Line) (fs : List Slot) (p : Power) → isQueued (s .queue) l ≡ true → fs ≡ map (renewed l c) (s .queue) → p ≡ s .power → _≡_ {A = Parts} (record { bytes = s .bytes; queue = fs; power = p }) (entered l c s)
 renew-parts s l c fs p h a q = rw (h, a, q) refl
 
@@ -308,3 +311,6 @@ renewed-none l c (f ∷ fs) e =
 -- at most sixteen are queued
 pub few-of : (q : Queued) → length (partsOf q .queue) ≤ 16
 few-of q = simp length-take (omega (arith, q .volatile .queue .few))
+
+pub once-of : (q : Queued) → (length (partsOf q .queue) ≤ 16) × (distinct (partsOf q .queue) ≡ true)
+once-of q = (few-of q, q .volatile .queue .once)

@@ -23,7 +23,7 @@ use Rattle.queued.specs.declared.fate.Fate.the-variants.{Old, New, Torn, Other
 use Rattle.queued.specs.Slots.{slot, isQueued, newest, renewed}
 use Rattle.queued.specs.Fates.{fateAt, survivor}
 use Rattle.queued.specs.Below.{overlaid, moved, cutDown}
-use Rattle.queued.proofs.Entries.{Full}
+use Rattle.queued.proofs.Entries.{Full, or-left, or-right}
 
 pub overlaid-length : (ls : List Line) (es : List Slot) → length (overlaid ls es) ≡ length ls
 unfolding overlaid
@@ -54,15 +54,6 @@ pub overlaid-whole : (ls : List Line) (es : List Slot) → All Full es → Lines
 unfolding overlaid
 overlaid-whole ls [] a w = w
 overlaid-whole ls (e ∷ es) a w = overlaid-whole (set ls (e .line) (e .content)) es (a .1) (set-lines ls (e .line) (e .content) (a .0) w)
-
--- a test that is false is false in both parts
-pub or-left : (a b : Bool) → (a || b) ≡ false → a ≡ false
-or-left false b e = refl
-or-left true b e = e
-
-pub or-right : (a b : Bool) → (a || b) ≡ false → b ≡ false
-or-right false b e = e
-or-right true b e = absurd (grind arith)
 
 unlike : (m n : ℕ) → eqb m n ≡ false → n ≢ m
 unlike m n e q = let t : eqb m n ≡ true = eq-eqb m n (sym q) in absurd (grind arith)
@@ -140,18 +131,6 @@ module _ (choice : ℕ) where
       cut-other (suc i) (withLine bs (f .line) (survivor (fateAt choice i) (lineOf bs (f .line)) (f .content))) es l (a .1) (or-right (eqb (f .line) l) (isQueued es l) e)
       ∙ (ap (λ (ls : List Line). getD ls l []) (with-lines bs (f .line) (survivor (fateAt choice i) (lineOf bs (f .line)) (f .content)) (left-length i bs f (a .0)))
       ∙ getD-set-other (linesOf bs) (f .line) l (survivor (fateAt choice i) (lineOf bs (f .line)) (f .content)) [] (unlike (f .line) l (or-left (eqb (f .line) l) (isQueued es l) e)))
-
--- renewing in place
-renewed-line : (l : ℕ) (c : Line) (e : Slot) → renewed l c e .line ≡ e .line
-renewed-line l c e = go (cases-eq (e .line) l)
-  where
-    go : (e .line ≡ l) ⊎ (e .line ≢ l) → cond (eqb (e .line) l) (slot l c) e .line ≡ e .line
-    go (inl q) = rw (eq-eqb (e .line) l q) (sym q)
-    go (inr n) = rw (ne-eqb (e .line) l n) refl
-
-pub queued-renewed : (l : ℕ) (c : Line) (es : List Slot) (k : ℕ) → isQueued (map (renewed l c) es) k ≡ isQueued es k
-queued-renewed l c [] k = refl
-queued-renewed l c (e ∷ es) k = rw (renewed-line l c e, queued-renewed l c es k) refl
 
 -- put in under all entries, the content comes out on top of them, if they are renewed
 renewed-under : (l : ℕ) (c : Line) (ls : List Line) (es : List Slot) → overlaid (set ls l c) (map (renewed l c) es) ≡ set (overlaid ls es) l c

@@ -1,6 +1,6 @@
 -- Queued writes: a list of entries, the oldest first, each a line with its new content.
 use mathlib.Core.Path.{_≡_}
-use mathlib.Core.Bool.{Bool, true, false, cond, _||_}
+use mathlib.Core.Bool.{Bool, true, false, cond, not, _||_, _&&_}
 use mathlib.Core.List.{List, [], _∷_}
 use Prim.Native.Nat.{ℕ}
 use lib.Dec.{eqb}
@@ -20,6 +20,11 @@ Whole es = (i : ℕ) → length (getD es i (slot 0 (replicate 64 0)) .content) �
 abbrev pub isQueued : List Slot → ℕ → Bool
 isQueued [] l = false
 isQueued (e ∷ es) l = eqb (e .line) l || isQueued es l
+
+-- no line is queued twice
+abbrev pub distinct : List Slot → Bool
+distinct [] = true
+distinct (e ∷ es) = not (isQueued es (e .line)) && distinct es
 
 -- what the newest entry of line l holds, else what was found before
 abbrev pub newest : Option Line → List Slot → ℕ → Option Line

@@ -4,7 +4,7 @@ ghost use denote.Ref.{now, name};
 ghost use mathlib.Core.Path.{_≡_};
 ghost use mathlib.Core.Bool.{true};
 ghost use mathlib.Core.List.{[]};
-ghost use Prim.Native.Nat.{_-_};
+ghost use Prim.Native.Nat.{_-_, _≤_};
 ghost use lib.Dec.{ltb};
 ghost use lib.ListN.{length, take, drop};
 ghost use Rattle.lines.specs.Lines.{countOf, lineAt, restOf};
@@ -12,6 +12,7 @@ ghost use Rattle.memory.specs.Meaning.{Sound, Reads, Writes, Fences, Cuts, powe
 ghost use Rattle.memory.specs.declared.power.Power.the-variants.{Off};
 ghost use Rattle.memory.specs.Power.{isOn};
 ghost use Rattle.queued.specs.Below.{moved};
+ghost use Rattle.queued.specs.Slots.{distinct};
 ghost use Rattle.queued.specs.Queued.{partsOf, meant, darkened, roomy, entered, drained, afterWrite, afterFence, afterCut, afterPowerUp};
 use below::cut_down;
 use below::move_down;
@@ -140,6 +141,7 @@ pub impl<'a> Memory for Queued<'a> as QueuedMemory {
         ensures did { λ r. ⌜ Writes (meant (now (self .entry))) line (now (content .entry)) r (meant (now (self .exit))) ⌝ }
         ensures sound { λ _. ⌜ Sound (meant (now (self .exit))) ⌝ }
         ensures parts { λ _. ⌜ partsOf (now (self .exit)) ≡ afterWrite (now (self .entry) .choice) line (now (content .entry)) (partsOf (now (self .entry))) ⌝ }
+        ensures queue { λ _. ⌜ (length (partsOf (now (self .exit)) .queue) ≤ 16) × (distinct (partsOf (now (self .exit)) .queue) ≡ true) ⌝ }
         ensures rest { λ _. ⌜ restOf (partsOf (now (self .exit)) .bytes) ≡ restOf (partsOf (now (self .entry)) .bytes) ⌝ }
         ensures choice { λ _. ⌜ now (self .exit) .choice ≡ now (self .entry) .choice ⌝ }
         ensures lender { λ _. ⌜ name (now (self .exit) .bytes) ≡ name (now (self .entry) .bytes) ⌝ }

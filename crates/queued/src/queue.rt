@@ -1,8 +1,9 @@
 // The queue of written lines: a fixed table of sixteen slots, the oldest first.
 ghost use mathlib.Core.Path.{_≡_};
 ghost use Prim.Native.Nat.{_≤_};
-ghost use lib.ListN.{length};
-ghost use Rattle.queued.specs.Slots.{Whole};
+ghost use mathlib.Core.Bool.{true};
+ghost use lib.ListN.{length, take};
+ghost use Rattle.queued.specs.Slots.{Whole, distinct};
 use crate::slot::Slot;
 
 mod calls;
@@ -14,4 +15,5 @@ pub struct Queue {
     ghost sixteen: { length slots ≡ 16 },
     ghost few: { len ≤ 16 },
     ghost whole: { Whole slots },
+    ghost once: { distinct (take len slots) ≡ true },
 }

@@ -1,5 +1,6 @@
 // What the queue can do, by the list of its entries.
 ghost use mathlib.Core.Path.{_≡_};
+ghost use mathlib.Core.Bool.{false};
 ghost use mathlib.Core.List.{[], _∷_, _++_, map};
 ghost use Prim.Native.Nat.{_<_};
 ghost use lib.Dec.{eqb};
@@ -81,9 +82,9 @@ impl Queue {
         oldest
     }
 
-    // Enters a line behind all others.
+    // Enters a line that is not queued behind all others.
     pub(crate) fn enter(&mut self, line: u16, content: &[u8; 64])
-        requires { ⌜ length (entriesIn (now self)) < 16 ⌝ }
+        requires { ⌜ length (entriesIn (now self)) < 16 ⌝ ∗ ⌜ isQueued (entriesIn (now self)) line ≡ false ⌝ }
         ensures { λ _. ⌜ entriesIn (now (self .exit)) ≡ entriesIn (now (self .entry)) ++ (slot line (now (content .entry)) ∷ []) ⌝ }
     {
         self.slots[self.len] = Slot {

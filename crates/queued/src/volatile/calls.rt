@@ -1,6 +1,6 @@
 // The queue under its power supply: no call leaves an entry without power.
 ghost use mathlib.Core.Path.{_≡_};
-ghost use mathlib.Core.Bool.{true, cond};
+ghost use mathlib.Core.Bool.{true, false, cond};
 ghost use mathlib.Core.List.{[], _∷_, _++_, map};
 ghost use Prim.Native.Nat.{_<_, _≤_};
 ghost use lib.Dec.{eqb};
@@ -87,9 +87,9 @@ impl Volatile {
         self.queue.take_oldest()
     }
 
-    // Enters a line behind all others.
+    // Enters a line that is not queued behind all others.
     pub(crate) fn enter(&mut self, line: u16, content: &[u8; 64])
-        requires { ⌜ isOn (now self .power) ≡ true ⌝ ∗ ⌜ length (entriesIn (now self .queue)) < 16 ⌝ }
+        requires { ⌜ isOn (now self .power) ≡ true ⌝ ∗ ⌜ length (entriesIn (now self .queue)) < 16 ⌝ ∗ ⌜ isQueued (entriesIn (now self .queue)) line ≡ false ⌝ }
         ensures entries { λ _. ⌜ entriesIn (now (self .exit) .queue) ≡ entriesIn (now (self .entry) .queue) ++ (slot line (now (content .entry)) ∷ []) ⌝ }
         ensures power { λ _. ⌜ now (self .exit) .power ≡ now (self .entry) .power ⌝ }
     {

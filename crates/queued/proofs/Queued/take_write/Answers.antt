@@ -11,7 +11,7 @@ use Rattle.memory.specs.Power.{isOn}
 use Rattle.queued.specs.declared.slot.Slot.{Slot}
 use Rattle.queued.specs.Slots.{isQueued, renewed}
 use Rattle.queued.specs.Queued.{Parts, partsOf, roomy}
-use Rattle.queued.proofs.Meant.{alike, few-of, renewed-none, room-length, renew-parts, enter-parts}
+use Rattle.queued.proofs.Meant.{alike, few-of, renewed-none, room-length, room-out, renew-parts, enter-parts}
 use Rattle.queued.proofs.Queued.take_write.Needs as need
 
 -- before room is made all is as it was
@@ -23,7 +23,10 @@ enter-requires c κs =
     let before = was (partsOf (c .args .self .now)) (c .args .line) (c .args .content .now) _ _ (sym (c .if-renew .ensures tt .queued)) (c .renew .ensures .entries) (c .renew .ensures .power) in
     let after = c .make-room .ensures .parts ∙ ap (λ (s : Parts). roomy s) before in (
       ap (λ (s : Parts). isOn (s .power)) after ∙ c .pre,
-      let long = ap (λ (s : Parts). length (s .queue)) after in omega (arith, room-length (partsOf (c .args .self .now)) (few-of (c .args .self .now))),
+      (
+        (let long = ap (λ (s : Parts). length (s .queue)) after in omega (arith, room-length (partsOf (c .args .self .now)) (few-of (c .args .self .now)))),
+        ap (λ (s : Parts). isQueued (s .queue) (c .args .line)) after ∙ room-out (partsOf (c .args .self .now)) (c .args .line) (sym (c .if-renew .ensures tt .queued)),
+      ),
     )
 
 pub returns-then-renew : need.returns-then-renew

@@ -1,19 +1,19 @@
 use mathlib.Core.Path.{refl, sym, _∙_, ap}
 use Rattle.queued.specs.Queued.{partsOf, darkened, entered}
-use Rattle.queued.proofs.Meant.{sound-of, full-of, asked-paid, asked-none, writes-none, writes-off, writes-goes, writes-on}
+use Rattle.queued.proofs.Meant.{sound-of, once-of, full-of, asked-paid, asked-none, writes-none, writes-off, writes-goes, writes-on}
 use Rattle.queued.proofs.QueuedMemory.write.Needs as need
 
 pub returns-then-not-has-line : need.returns-then-not-has-line
 returns-then-not-has-line c =
     let w = writes-none (c .args .self .now .choice) (partsOf (c .args .self .now)) (full-of (c .args .self .now)) (c .args .line) (c .args .content .now)
     (sym (c .if-not-has-line .ensures tt)) in
-    record { did = w .did; sound = sound-of (c .args .self .now); parts = w .parts; rest = w .rest; choice = refl; lender = refl }
+    record { did = w .did; sound = sound-of (c .args .self .now); queue = once-of (c .args .self .now); parts = w .parts; rest = w .rest; choice = refl; lender = refl }
 
 pub returns-then-not-is-on : need.returns-then-not-is-on
 returns-then-not-is-on c =
     let w = writes-off (c .args .self .now .choice) (partsOf (c .args .self .now)) (full-of (c .args .self .now)) (c .args .line) (c .args .content .now)
     (sym (c .if-not-has-line .ensures tt)) (sym (c .if-not-is-on .ensures tt)) in
-    record { did = w .did; sound = sound-of (c .args .self .now); parts = w .parts; rest = w .rest; choice = refl; lender = refl }
+    record { did = w .did; sound = sound-of (c .args .self .now); queue = once-of (c .args .self .now); parts = w .parts; rest = w .rest; choice = refl; lender = refl }
 
 pub returns-then-not-spend : need.returns-then-not-spend
 returns-then-not-spend c =
@@ -25,6 +25,7 @@ returns-then-not-spend c =
     record {
       did = w .did;
       sound = sound-of (c .lose-power .last .self);
+      queue = once-of (c .lose-power .last .self);
       parts = w .parts;
       rest = w .rest;
       choice = c .lose-power .ensures .choice;
@@ -41,6 +42,7 @@ returns c =
     record {
       did = w .did;
       sound = sound-of (c .take-write .last .self);
+      queue = once-of (c .take-write .last .self);
       parts = w .parts;
       rest = w .rest;
       choice = c .take-write .ensures .choice;

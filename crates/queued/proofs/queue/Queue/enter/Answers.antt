@@ -1,19 +1,27 @@
 use native.Mathlib.Omega.{arith}
-use mathlib.Core.Path.{_∙_}
-use Prim.Native.Nat.{_<_}
+use mathlib.Core.Path.{_≡_, ap, sym, _∙_}
+use mathlib.Core.List.{List}
 use lib.ListN.{length, length-set, length-take}
 use Rattle.std.proofs.shelf.Lists.{take-more-set}
-use Rattle.queued.proofs.Entries.{whole-set}
+use Rattle.queued.specs.declared.slot.Slot.{Slot}
+use Rattle.queued.specs.Slots.{distinct, slot}
+use Rattle.queued.proofs.Entries.{whole-set, distinct-push}
 use Rattle.queued.proofs.queue.Queue.enter.Needs as need
 
 pub ghost-self : need.ghost-self
-ghost-self c = (
-  length-set (c .args .self .now .slots) _ _ ∙ c .args .self .now .sixteen,
-  (
-    omega (arith, length-take (c .args .self .now .len) (c .args .self .now .slots)),
-    (whole-set (c .args .self .now .slots) _ _ _ (c .told-content) (c .args .self .now .whole), tt),
-  ),
-)
+ghost-self c =
+    let slots = c .args .self .now .slots in
+    let more = take-more-set slots (c .args .self .now .len) (slot (c .args .line) (c .args .content .now))
+    (omega (arith, length-take (c .args .self .now .len) slots)) in (
+      length-set slots _ _ ∙ c .args .self .now .sixteen,
+      (
+        omega (arith, length-take (c .args .self .now .len) slots),
+        (
+          whole-set slots _ _ _ (c .told-content) (c .args .self .now .whole),
+          (ap distinct more ∙ distinct-push _ (c .args .line) (c .args .content .now) (c .pre .1) (c .args .self .now .once), tt),
+        ),
+      ),
+    )
 
 pub returns : need.returns
 returns c =
