@@ -1,7 +1,7 @@
 -- The lines in a row of bytes, and what stands behind them, after one line is written.
-use mathlib.Core.Path.{_≡_, refl, sym, _∙_, ap, subst}
+use mathlib.Core.Path.{_≡_, refl, sym, _∙_, ap}
 use mathlib.Core.Bool.{Bool, true, false, cond}
-use mathlib.Core.List.{List, [], _∷_, _++_}
+use mathlib.Core.List.{List, [], _++_}
 use mathlib.Core.Logic.{_≢_, _⊎_, inl, inr}
 use Prim.Native.Nat.{ℕ, zero, suc, _+_, _-_, _*_, _/_, _≤_, _<_}
 use native.Mathlib.Omega.{arith}
@@ -13,7 +13,6 @@ use lib.ListN.{length, getD, set, take, drop, length-set, length-take, length-dr
 use Rattle.std.proofs.shelf.Lists.{places, same-lists, drop-at, take-at, length-take-le, getD-set-same, getD-set-other, getD-take, getD-drop, set-past}
 use Rattle.std.proofs.shelf.Tests.{cases-eq}
 use borrow.Rule.Slice.PartMut.{putMid, post-is}
-use Rattle.std.specs.declared.option.Option.{Option}
 use Rattle.std.specs.declared.option.Option.the-variants.{Some, None}
 use Rattle.lines.specs.Lines.{Line, countOf, lineOf, lineAt, withLine, counted, linesOf, restOf, torn}
 

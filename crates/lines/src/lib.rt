@@ -1,7 +1,7 @@
 // Lines of 64 bytes within lent bytes: line l is bytes 64 l to 64 l + 63. A rest below 64 bytes is no line and is never
 // touched.
 ghost use mathlib.Core.Path.{_≡_};
-ghost use Prim.Native.Nat.{_+_, _*_, _/_, _≤_, _<_};
+ghost use Prim.Native.Nat.{_+_, _*_, _/_};
 ghost use lib.ListN.{length};
 ghost use Rattle.lines.specs.Lines.{countOf, lineAt, withLine, restOf, torn};
 

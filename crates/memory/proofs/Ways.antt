@@ -1,21 +1,18 @@
 -- What a kind of memory that keeps lines, marks of the durable ones and a power supply has to show, way by way.
-use mathlib.Core.Path.{_≡_, refl, sym, _∙_, ap}
+use mathlib.Core.Path.{_≡_, refl, _∙_, ap}
 use mathlib.Core.Bool.{Bool, true, false}
 use mathlib.Core.List.{List, []}
-use Prim.Native.Nat.{ℕ, _+_, _-_, _≤_, _<_}
+use Prim.Native.Nat.{ℕ, _≤_, _<_}
 use native.Mathlib.Omega.{arith}
-use borrow.Author.Tests.{ltb-true, ltb-false, lt-ltb, le-ltb}
-use lib.Dec.{ltb}
+use borrow.Author.Tests.{ltb-true, ltb-false, lt-ltb}
 use lib.ListN.{length, getD, set, length-set}
-use Rattle.std.specs.declared.result.Result.{Result}
 use Rattle.std.specs.declared.result.Result.the-variants.{Ok, Err}
-use Rattle.memory.specs.declared.fault.MemoryFault.{MemoryFault}
 use Rattle.memory.specs.declared.fault.MemoryFault.the-variants.{NoSuchLine, NoPower, Unreadable}
 use Rattle.memory.specs.declared.fault.Operation.the-variants.{Write, Fence}
 use Rattle.memory.specs.declared.power.Power.{Power}
 use Rattle.memory.specs.declared.power.Power.the-variants.{Off, On}
-use Rattle.memory.specs.Power.{isOn, leftIn, suffices, spent, meaningOf}
-use Rattle.memory.specs.Meaning.{Line, Meaning, Durable, contentAt, Sound, Cut, loosened, Wrote, Fenced, Reads, Writes, Fences, Cuts}
+use Rattle.memory.specs.Power.{isOn, suffices, spent, meaningOf}
+use Rattle.memory.specs.Meaning.{Line, Sound, Cut, loosened, Reads, Writes, Fences, Cuts}
 
 -- the lines are whole and the marks are as many; with power off all are durable
 pub sound-kind : (ls : List Line) (ds : List Bool) (p : Power) → length ds ≡ length ls → ((l : ℕ) → l < length ls → length (getD ls l []) ≡ 64) → (isOn p ≡ false → (l : ℕ) → getD ds l true ≡ true) → Sound (meaningOf ls ds p)

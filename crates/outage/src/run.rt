@@ -1,5 +1,4 @@
 // Runs the story in a memory, and reads what stands after the outage.
-ghost use mathlib.Core.Path.{_≡_};
 ghost use Rattle.std.specs.Vec.{made};
 ghost use Rattle.outage.specs.History.{Tells};
 ghost use Rattle.outage.specs.Run.{Settled, Stepped, Kept, Found, Honest, AsAsked};

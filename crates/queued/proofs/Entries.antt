@@ -5,16 +5,15 @@ use mathlib.Core.List.{List, [], _∷_, _++_, map}
 use mathlib.Core.Logic.{_≢_, _⊎_, inl, inr}
 use Prim.Native.Nat.{ℕ, zero, suc, _+_, _-_, _≤_, _<_}
 use native.Mathlib.Omega.{arith}
-use borrow.Author.Needs.{needs}
 use borrow.Author.Tests.{eq-eqb, ne-eqb}
 use lib.Dec.{eqb}
-use lib.ListN.{length, getD, set, take, drop, replicate, length-set, length-take, length-drop, length-append}
+use lib.ListN.{length, getD, set, take, drop, replicate, length-take, length-drop, length-append}
 use Rattle.std.specs.shelf.Lists.{All}
 use Rattle.std.proofs.shelf.Elements.{all-map, all-weaker, all-getD, all-from-getD, all-append, all-set, all-take, all-drop}
 use Rattle.std.proofs.shelf.Tests.{cases-eq, cases-lt}
-use Rattle.std.proofs.shelf.Lists.{take-append-le, drop-all, getD-at, getD-past, take-more, take-more-set, take-at, drop-more, getD-take, map-more, take-take, append-assoc, take-append-drop, set-at, length-take-le, length-map}
+use Rattle.std.proofs.shelf.Lists.{take-append-le, drop-all, getD-at, getD-past, take-more, take-at, drop-more, getD-take, map-more, append-assoc, set-at, length-take-le, length-map}
 use Rattle.std.specs.declared.option.Option.{Option}
-use Rattle.std.specs.declared.option.Option.the-variants.{Some, None}
+use Rattle.std.specs.declared.option.Option.the-variants.{Some}
 use Rattle.lines.specs.Lines.{Line}
 use Rattle.queued.specs.declared.slot.Slot.{Slot}
 use Rattle.queued.specs.Slots.{slot, Whole, isQueued, distinct, newest, renewed}

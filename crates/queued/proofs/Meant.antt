@@ -1,37 +1,36 @@
 -- What the calls of queued memory do to what its parts mean.
 use mathlib.Core.Path.{_≡_, refl, sym, _∙_, ap}
-use mathlib.Core.Bool.{Bool, true, false, cond, not, _||_}
+use mathlib.Core.Bool.{Bool, true, false, cond, not}
 use mathlib.Core.List.{List, [], _∷_, _++_, map}
 use mathlib.Core.Logic.{_≢_, _⊎_, inl, inr}
-use Prim.Native.Nat.{ℕ, zero, suc, _+_, _-_, _/_, _≤_, _<_}
+use Prim.Native.Nat.{ℕ, zero, suc, _-_, _/_, _≤_, _<_}
 use native.Mathlib.Omega.{arith}
-use borrow.Author.Tests.{ltb-true, ltb-false, lt-ltb, le-ltb, eq-eqb, ne-eqb}
+use borrow.Author.Tests.{ltb-true, ltb-false, ne-eqb}
 use lib.Dec.{eqb, ltb}
-use lib.ListN.{length, getD, set, take, drop, length-set, length-drop, length-take}
+use lib.ListN.{length, getD, set, take, drop, length-drop, length-take}
 use Rattle.std.specs.Options.{valueOr}
-use Rattle.std.specs.declared.option.Option.{Option}
 use Rattle.std.specs.declared.option.Option.the-variants.{Some, None}
 use Rattle.std.specs.declared.result.Result.{Result}
 use Rattle.std.specs.declared.result.Result.the-variants.{Ok, Err}
 use Rattle.std.specs.shelf.Lists.{All}
-use Rattle.std.proofs.shelf.Elements.{all-take, all-drop, all-append}
+use Rattle.std.proofs.shelf.Elements.{all-take}
 use Rattle.std.proofs.shelf.Lists.{getD-set-same, getD-set-other, getD-past, nil-from-length}
 use Rattle.std.proofs.shelf.Tests.{cases-eq, cases-lt}
-use Rattle.lines.specs.Lines.{Line, countOf, lineOf, lineAt, linesOf, restOf, counted, withLine}
+use Rattle.lines.specs.Lines.{Line, countOf, lineAt, linesOf, restOf, counted, withLine}
 use Rattle.lines.proofs.Rows.{counted-length, counted-at, lines-length, lines-whole, line-at, line-none, line-some}
 use Rattle.memory.specs.declared.fault.MemoryFault.{MemoryFault}
 use Rattle.memory.specs.declared.fault.MemoryFault.the-variants.{NoSuchLine, NoPower, Unreadable}
 use Rattle.memory.specs.declared.fault.Operation.the-variants.{Write, Fence}
 use Rattle.memory.specs.declared.power.Power.{Power}
 use Rattle.memory.specs.declared.power.Power.the-variants.{Off, On}
-use Rattle.memory.specs.Power.{isOn, leftIn, suffices, spent, meaningOf}
-use Rattle.memory.specs.Meaning.{Meaning, Durable, contentAt, Sound, Cut, loosened, Cuts, Reads, Writes, Fences}
+use Rattle.memory.specs.Power.{isOn, leftIn, suffices, spent}
+use Rattle.memory.specs.Meaning.{contentAt, Sound, Cut, Cuts, Reads, Writes, Fences}
 use Rattle.memory.proofs.Ways.{sound-kind, read-missing, read-dark, read-done, write-missing, write-dark, write-lost, write-done, fence-dark, fence-lost, fence-done, cut-dark, cut-done}
 use Rattle.queued.specs.declared.slot.Slot.{Slot}
 use Rattle.queued.specs.declared.Queued.{Queued}
 use Rattle.queued.specs.Slots.{slot, isQueued, distinct, newest, renewed}
 use Rattle.queued.specs.Below.{overlaid, moved, cutDown}
-use Rattle.queued.specs.Queued.{Parts, partsOf, meaningIn, meant, darkened, operated, renewing, roomy, entering, entered, drained, afterWrite, afterFence, afterCut}
+use Rattle.queued.specs.Queued.{Parts, partsOf, meaningIn, meant, darkened, renewing, roomy, entering, entered, drained, afterWrite, afterFence, afterCut}
 use Rattle.queued.proofs.Entries.{Full, or-left, or-right, all-of-whole, queued-++, queued-renewed}
 use Rattle.queued.proofs.Overlaid.{overlaid-none, overlaid-length, overlaid-whole, overlaid-other, overlaid-newest, moved-length, moved-lines, moved-rest, cut-length, cut-rest, cut-other, overlaid-renewed, overlaid-entered}
 

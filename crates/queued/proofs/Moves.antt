@@ -1,17 +1,14 @@
 -- Entries on their way to the bytes below: one more, and the last.
-use mathlib.Core.Path.{_≡_, refl, sym, _∙_, ap}
-use mathlib.Core.Bool.{Bool, true, false, cond}
-use mathlib.Core.List.{List, [], _∷_, _++_}
-use Prim.Native.Nat.{ℕ, zero, suc, _+_, _≤_, _<_}
+use mathlib.Core.Path.{_≡_, refl, _∙_, ap}
+use mathlib.Core.List.{List}
+use Prim.Native.Nat.{ℕ, _+_, _≤_, _<_}
 use native.Mathlib.Numerals.{add-one}
 use native.Mathlib.Omega.{arith}
 use borrow.Author.Tests.{le-ltb}
-use lib.Dec.{ltb}
 use lib.ListN.{length, getD, drop}
-use Rattle.std.specs.declared.option.Option.{Option}
 use Rattle.std.specs.declared.option.Option.the-variants.{Some, None}
 use Rattle.std.proofs.shelf.Lists.{drop-more, drop-all}
-use Rattle.lines.specs.Lines.{Line, countOf, lineOf, lineAt, linesOf, withLine}
+use Rattle.lines.specs.Lines.{Line, countOf, lineOf, lineAt, withLine}
 use Rattle.lines.proofs.Rows.{line-none, line-some, lines-length}
 use Rattle.queued.specs.declared.slot.Slot.{Slot}
 use Rattle.queued.specs.declared.fate.Fate.{Fate}

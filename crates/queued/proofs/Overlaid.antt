@@ -1,22 +1,22 @@
 -- Lines with queued writes put in: what is read, what moving down and cutting keep.
 use mathlib.Core.Path.{_≡_, refl, sym, _∙_, ap}
-use mathlib.Core.Bool.{Bool, true, false, cond, not, _||_}
+use mathlib.Core.Bool.{true, false, cond}
 use mathlib.Core.List.{List, [], _∷_, _++_, map}
 use mathlib.Core.Logic.{_≢_, _⊎_, inl, inr}
-use Prim.Native.Nat.{ℕ, zero, suc, _+_, _-_, _*_, _≤_, _<_}
+use Prim.Native.Nat.{ℕ, suc, _<_}
 use native.Mathlib.Omega.{arith}
 use borrow.Author.Tests.{eq-eqb, ne-eqb}
 use lib.Dec.{eqb}
-use lib.ListN.{length, getD, set, take, drop, replicate, length-set}
+use lib.ListN.{length, getD, set, take, drop, length-set}
 use Rattle.std.specs.Options.{valueOr}
 use Rattle.std.specs.declared.option.Option.{Option}
 use Rattle.std.specs.declared.option.Option.the-variants.{Some, None}
 use Rattle.std.specs.shelf.Lists.{All}
-use Rattle.std.proofs.shelf.Elements.{all-take, all-drop, all-append}
+use Rattle.std.proofs.shelf.Elements.{all-take}
 use Rattle.std.proofs.shelf.Lists.{getD-set-same, getD-set-other, set-set, set-comm, take-append-drop}
-use Rattle.std.proofs.shelf.Tests.{cases-eq, cases-lt}
-use Rattle.lines.specs.Lines.{Line, countOf, lineOf, withLine, linesOf, restOf, torn}
-use Rattle.lines.proofs.Rows.{lines-length, lines-whole, line-length, with-length, with-lines, with-rest, torn-length}
+use Rattle.std.proofs.shelf.Tests.{cases-eq}
+use Rattle.lines.specs.Lines.{Line, countOf, lineOf, withLine, linesOf, restOf}
+use Rattle.lines.proofs.Rows.{line-length, with-length, with-lines, with-rest, torn-length}
 use Rattle.queued.specs.declared.slot.Slot.{Slot}
 use Rattle.queued.specs.declared.fate.Fate.{Fate}
 use Rattle.queued.specs.declared.fate.Fate.the-variants.{Old, New, Torn, Other}

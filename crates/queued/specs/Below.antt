@@ -1,12 +1,9 @@
 -- Queued writes and the bytes below them.
-use mathlib.Core.Path.{_≡_}
-use mathlib.Core.Bool.{Bool, not}
-use mathlib.Core.List.{List, [], _∷_, _++_, map}
-use Prim.Native.Nat.{ℕ, suc, _-_}
-use lib.ListN.{length, set, take, drop}
+use mathlib.Core.List.{List, [], _∷_}
+use Prim.Native.Nat.{ℕ, suc}
+use lib.ListN.{set}
 use Rattle.lines.specs.Lines.{Line, lineOf, withLine}
 use Rattle.queued.specs.declared.slot.Slot.{Slot}
-use Rattle.queued.specs.Slots.{isQueued, renewed, slot}
 use Rattle.queued.specs.Fates.{fateAt, survivor}
 
 -- the lines below with the queued writes put in, in order of entry

@@ -1,5 +1,4 @@
 -- What a cut makes of a queued line: by two bits of the choice it stays old, is new, is torn or holds other bytes.
-use mathlib.Core.List.{List}
 use Prim.Native.Nat.{ℕ, zero, suc, _*_, _/_, _%_, _^_}
 use lib.ListN.{replicate}
 use Rattle.lines.specs.Lines.{Line, torn}

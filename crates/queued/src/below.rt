@@ -2,7 +2,6 @@
 ghost use mathlib.Core.Path.{_≡_};
 ghost use Prim.Native.Nat.{_≤_};
 ghost use lib.ListN.{length};
-ghost use Rattle.lines.specs.Lines.{restOf};
 ghost use Rattle.queued.specs.Below.{moved, cutDown};
 use crate::fate::fate_at;
 use crate::fate::survivor_of;

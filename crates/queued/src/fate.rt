@@ -1,8 +1,6 @@
 // What a cut makes of a queued line.
 ghost use mathlib.Core.Path.{_≡_};
-ghost use mathlib.Core.List.{_∷_};
-ghost use Prim.Native.Nat.{_<_, _≤_};
-ghost use lib.ListN.{length};
+ghost use Prim.Native.Nat.{_<_};
 ghost use Rattle.queued.specs.Fates.{fateAt, survivor};
 use lines::torn_line;
 

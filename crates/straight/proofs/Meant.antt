@@ -1,27 +1,26 @@
 -- What the calls of straight memory do to what its bytes mean.
 use mathlib.Core.Path.{_≡_, refl, sym, _∙_, ap}
-use mathlib.Core.Bool.{Bool, true, false, cond}
-use mathlib.Core.List.{List, [], _∷_}
+use mathlib.Core.Bool.{true, false}
+use mathlib.Core.List.{List, []}
 use mathlib.Core.Logic.{_≢_, _⊎_, inl, inr}
-use Prim.Native.Nat.{ℕ, zero, suc, _+_, _-_, _≤_, _<_}
+use Prim.Native.Nat.{ℕ, zero, suc, _<_}
 use native.Mathlib.Omega.{arith}
-use lib.Dec.{ltb}
 use lib.ListN.{length, getD, set, replicate, length-replicate, length-set}
-use borrow.Author.Tests.{ltb-true, ltb-false, lt-ltb, le-ltb}
+use borrow.Author.Tests.{lt-ltb, le-ltb}
 use Rattle.std.proofs.shelf.Lists.{getD-set-same, getD-set-other}
 use Rattle.std.proofs.shelf.Tests.{cases-eq}
 use Rattle.std.specs.declared.option.Option.the-variants.{Some, None}
 use Rattle.std.specs.declared.result.Result.{Result}
 use Rattle.std.specs.declared.result.Result.the-variants.{Ok, Err}
 use Rattle.lines.specs.Lines.{Line, countOf, lineOf, lineAt, withLine, linesOf, restOf, torn}
-use Rattle.lines.proofs.Rows.{lines-length, line-at, lines-whole, line-length, line-none, line-some, with-length, with-lines, with-rest, torn-length}
+use Rattle.lines.proofs.Rows.{lines-length, line-at, lines-whole, line-length, line-none, line-some, with-lines, with-rest, torn-length}
 use Rattle.memory.specs.declared.fault.MemoryFault.{MemoryFault}
 use Rattle.memory.specs.declared.fault.MemoryFault.the-variants.{NoSuchLine, NoPower, Unreadable}
 use Rattle.memory.specs.declared.fault.Operation.the-variants.{Write, Fence}
 use Rattle.memory.specs.declared.power.Power.{Power}
 use Rattle.memory.specs.declared.power.Power.the-variants.{Off, On}
-use Rattle.memory.specs.Power.{isOn, leftIn, suffices, spent, meaningOf}
-use Rattle.memory.specs.Meaning.{Meaning, Durable, contentAt, Sound, Cut, loosened, Cuts, Reads, Writes, Fences}
+use Rattle.memory.specs.Power.{isOn, suffices, spent, meaningOf}
+use Rattle.memory.specs.Meaning.{Meaning, Durable, Sound, Cut, loosened, Cuts, Reads, Writes, Fences}
 use Rattle.memory.proofs.Ways.{sound-kind, read-missing, read-dark, read-done, write-missing, write-dark, write-lost, write-done, spent-lost, fence-dark, fence-lost, fence-done, cut-dark, cut-done}
 use Rattle.straight.specs.Straight.{written, powerAfterWrite}
 

@@ -1,9 +1,9 @@
 -- Straight memory to the byte: what its bytes mean, and what each call leaves in them.
-use mathlib.Core.Bool.{Bool, true, false, cond}
+use mathlib.Core.Bool.{true, cond}
 use mathlib.Core.List.{List}
 use Prim.Native.Nat.{ℕ}
 use lib.Dec.{ltb}
-use lib.ListN.{length, replicate}
+use lib.ListN.{replicate}
 use denote.Ref.{now}
 use Rattle.lines.specs.Lines.{Line, countOf, lineOf, withLine, linesOf, torn}
 use Rattle.memory.specs.declared.power.Power.{Power}

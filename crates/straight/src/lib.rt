@@ -1,9 +1,8 @@
 // Straight memory: every completed write goes straight into the lent bytes, so every line is always durable.
 ghost use denote.Ref.{now, name};
 ghost use mathlib.Core.Path.{_≡_};
-ghost use lib.ListN.{length};
 ghost use Rattle.lines.specs.Lines.{lineAt, restOf};
-ghost use Rattle.memory.specs.Meaning.{Sound, Reads, Writes, Fences, Cuts, poweredUp};
+ghost use Rattle.memory.specs.Meaning.{Sound, Writes, Fences, Cuts, poweredUp};
 ghost use Rattle.memory.specs.declared.power.Power.the-variants.{Off, On};
 ghost use Rattle.memory.specs.Power.{spent};
 ghost use Rattle.straight.specs.Straight.{bytesIn, meant, written, powerAfterWrite};

@@ -1,8 +1,7 @@
 -- The middle part that was lent holds the content; behind the last line nothing changed.
-use borrow.Author.Needs.{needs}
-use mathlib.Core.Path.{_≡_, refl, sym, _∙_, ap}
+use mathlib.Core.Path.{_∙_, ap}
 use native.Mathlib.Omega.{arith}
-use Rattle.lines.specs.Lines.{restOf, withLine}
+use Rattle.lines.specs.Lines.{restOf}
 use Rattle.lines.proofs.Rows.{with-rest, lent-middle}
 use Rattle.lines.proofs.write_line.Needs as need
 

@@ -1,4 +1,3 @@
-use native.Mathlib.Omega.{arith}
 use Rattle.outage.specs.declared.history.Durability.the-variants.{Durable}
 use Rattle.outage.specs.History.{durabilityNext}
 use Rattle.outage.proofs.Folds.{fold-more, fold-all}

@@ -1,7 +1,7 @@
-use mathlib.Core.Path.{refl, sym, _∙_, ap}
+use mathlib.Core.Path.{refl, sym}
 use native.Mathlib.Omega.{arith}
 use borrow.Author.Tests.{eqb-true, eqb-false}
-use lib.ListN.{length, length-take}
+use lib.ListN.{length}
 use Rattle.queued.specs.Queued.{partsOf}
 use Rattle.queued.proofs.Meant.{room-full, room-there, few-of}
 use Rattle.queued.proofs.Queued.make_room.Needs as need

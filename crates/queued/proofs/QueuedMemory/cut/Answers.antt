@@ -1,4 +1,4 @@
-use mathlib.Core.Path.{refl, sym, _∙_, ap}
+use mathlib.Core.Path.{refl, sym}
 use Rattle.queued.specs.Queued.{partsOf}
 use Rattle.queued.proofs.Meant.{sound-of, full-of, cuts-on, cuts-off}
 use Rattle.queued.proofs.QueuedMemory.cut.Needs as need

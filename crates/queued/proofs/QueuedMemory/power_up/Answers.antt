@@ -1,7 +1,6 @@
-use mathlib.Core.Path.{refl, sym, _∙_, ap}
+use mathlib.Core.Path.{refl, ap}
 use Rattle.memory.specs.declared.power.Power.the-variants.{On}
-use Rattle.memory.specs.Meaning.{Meaning}
-use Rattle.queued.specs.Queued.{Parts, partsOf, meaningIn}
+use Rattle.queued.specs.Queued.{Parts, meaningIn}
 use Rattle.queued.proofs.Meant.{sound-of, alike}
 use Rattle.queued.proofs.QueuedMemory.power_up.Needs as need
 

@@ -1,5 +1,5 @@
 use native.Mathlib.Omega.{arith}
-use mathlib.Core.Path.{_≡_, refl, sym, _∙_, ap}
+use mathlib.Core.Path.{sym, _∙_}
 use Rattle.queued.proofs.Moves.{moved-more, moved-all}
 use Rattle.queued.proofs.below.move_down.Needs as need
 

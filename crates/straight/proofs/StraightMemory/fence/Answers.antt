@@ -1,4 +1,4 @@
-use mathlib.Core.Path.{refl, sym, _∙_}
+use mathlib.Core.Path.{refl, sym}
 use Rattle.straight.proofs.Meant.{fence-on, fence-goes}
 use Rattle.straight.proofs.StraightMemory.fence.Needs as need
 

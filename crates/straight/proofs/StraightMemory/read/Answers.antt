@@ -1,4 +1,4 @@
-use mathlib.Core.Path.{sym, _∙_}
+use mathlib.Core.Path.{sym}
 use Rattle.straight.proofs.Meant.{read-none, read-off, read-on}
 use Rattle.straight.proofs.StraightMemory.read.Needs as need
 

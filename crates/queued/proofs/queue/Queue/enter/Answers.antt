@@ -1,9 +1,7 @@
 use native.Mathlib.Omega.{arith}
-use mathlib.Core.Path.{_≡_, ap, sym, _∙_}
-use mathlib.Core.List.{List}
-use lib.ListN.{length, length-set, length-take}
+use mathlib.Core.Path.{ap, _∙_}
+use lib.ListN.{length-set, length-take}
 use Rattle.std.proofs.shelf.Lists.{take-more-set}
-use Rattle.queued.specs.declared.slot.Slot.{Slot}
 use Rattle.queued.specs.Slots.{distinct, slot}
 use Rattle.queued.proofs.Entries.{whole-set, distinct-push}
 use Rattle.queued.proofs.queue.Queue.enter.Needs as need

@@ -1,10 +1,8 @@
 use native.Mathlib.Omega.{arith}
-use mathlib.Core.Path.{_≡_, refl, sym, _∙_, ap}
-use mathlib.Core.List.{List, map}
-use Prim.Native.Nat.{_+_}
+use mathlib.Core.Path.{_≡_, sym, _∙_, ap}
+use mathlib.Core.List.{map}
 use lib.ListN.{take}
-use Rattle.queued.specs.declared.slot.Slot.{Slot}
-use Rattle.queued.specs.Slots.{isQueued, distinct, renewed}
+use Rattle.queued.specs.Slots.{distinct, renewed}
 use Rattle.queued.proofs.Entries.{renew-here, renew-past, renewed-all, whole-renewed, length-renewed, distinct-renewed}
 use Rattle.queued.proofs.queue.Queue.renew.Needs as need
 use Rattle.queued.proofs.queue.Queue.renew.Needs.{then-slots-i, else-slots-i}
