@@ -25,8 +25,8 @@ faultName (Unreadable l) = codes "no power"
 -- where it happened
 abbrev pub faultPlace : MemoryFault → List ℕ
 faultPlace (NoSuchLine l) = codes ": line " ++ decimal l
-faultPlace (NoPower Write l) = codes ": write of line " ++ decimal l
-faultPlace (NoPower Fence l) = codes ": fence"
+faultPlace (NoPower Write l) = codes ": " ++ (operationName Write ++ (codes " of line " ++ decimal l))
+faultPlace (NoPower Fence l) = codes ": " ++ operationName Fence
 faultPlace (Unreadable l) = codes ": read of line " ++ decimal l
 
 -- what is printed of a fault

@@ -1,5 +1,7 @@
 // Tests of the two kinds of memory at their edges.
 #[cfg(test)]
+mod laws;
+#[cfg(test)]
 mod lent;
 #[cfg(test)]
 mod power;

@@ -93,10 +93,4 @@ impl Queue {
         };
         self.len += 1;
     }
-
-    pub(crate) fn clear(&mut self)
-        ensures { λ _. ⌜ entriesIn (now (self .exit)) ≡ [] ⌝ }
-    {
-        self.len = 0;
-    }
 }
