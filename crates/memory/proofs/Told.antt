@@ -4,19 +4,19 @@ use mathlib.Core.Bool.{Bool, true, false}
 use mathlib.Core.Logic.{⊎-elim}
 use Prim.Native.Nat.{ℕ, _<_}
 use native.Mathlib.Omega.{arith}
-use lib.ListN.{length, set}
+use lib.ListN.{length}
 use Rattle.std.specs.declared.result.Result.the-variants.{Ok}
 use Rattle.std.proofs.shelf.Tests.{cases-lt}
-use Rattle.memory.specs.Meaning.{Line, Meaning, contentAt, Reads, Writes}
+use Rattle.memory.specs.Meaning.{Line, Meaning, contentAt, Wrote, Reads, Writes}
 
 -- a write that completes is of a line that is there
 module _ (m m′ : Meaning) (l : ℕ) (c : Line) (w : Writes m l c (Ok tt) m′) where
-  wrote-here : l < length (m .lines) → (b : Bool) → m .on ≡ b → (l < length (m .lines)) × (m′ .lines ≡ set (m .lines) l c)
+  wrote-here : l < length (m .lines) → (b : Bool) → m .on ≡ b → (l < length (m .lines)) × Wrote m l c m′
   wrote-here h true e =
-      ⊎-elim (λ z. (h, w .done h e z .1 .content)) (λ z. let dead = w .lost h e (omega arith) .0 in absurd (grind arith)) (cases-lt 0 (m .left))
+      ⊎-elim (λ z. (h, w .done h e z .1)) (λ z. let dead = w .lost h e (omega arith) .0 in absurd (grind arith)) (cases-lt 0 (m .left))
   wrote-here h false e = let dead = w .dark h e .0 in absurd (grind arith)
 
-  pub wrote : (l < length (m .lines)) × (m′ .lines ≡ set (m .lines) l c)
+  pub wrote : (l < length (m .lines)) × Wrote m l c m′
   wrote = ⊎-elim (λ h. wrote-here h (m .on) refl) (λ z. let dead = w .missing z .0 in absurd (grind arith)) (cases-lt l (length (m .lines)))
 
 -- a read that completes gives the content

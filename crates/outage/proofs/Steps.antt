@@ -33,8 +33,8 @@ pub settled-more : (m m′ : Meaning) (l : ℕ) (c : Line) → c ≡ oldContent 
 settled-more m m′ l c e w inv =
     let is = wrote m m′ l c w in
     below-more _ _
-    (λ j h. let ne : j ≢ l = omega arith in ap (λ ls. getD ls j []) (is .1) ∙ (getD-set-other (m .lines) l j c [] ne ∙ inv j h))
-    (ap (λ ls. getD ls l []) (is .1) ∙ (getD-set-same (m .lines) l c [] (is .0) ∙ e))
+    (λ j h. let ne : j ≢ l = omega arith in ap (λ ls. getD ls j []) (is .1 .content) ∙ (getD-set-other (m .lines) l j c [] ne ∙ inv j h))
+    (ap (λ ls. getD ls l []) (is .1 .content) ∙ (getD-set-same (m .lines) l c [] (is .0) ∙ e))
 
 -- one more line is named
 pub found-more : (m : Meaning) (l : ℕ) (x : Line) (s : Stands) (ss : List Stands) → l < length ss → Reads m l (Ok x) → s ≡ called l x → ((j : ℕ) → j < l → getD ss j Other ≡ called j (contentAt m j)) → (j : ℕ) → j < l + 1 → getD (set ss l s) j Other ≡ called j (contentAt m j)

@@ -3,7 +3,7 @@ use mathlib.Core.Path.{_≡_}
 use mathlib.Core.Bool.{false, cond}
 use mathlib.Core.List.{List}
 use Prim.Native.Nat.{ℕ, _<_}
-use lib.ListN.{getD}
+use lib.ListN.{length, getD}
 use Rattle.std.specs.declared.result.Result.{Result}
 use Rattle.std.specs.declared.result.Result.the-variants.{Ok, Err}
 use Rattle.memory.specs.declared.fault.MemoryFault.{MemoryFault}
@@ -40,6 +40,7 @@ pub record Settled (m : Meaning) : Type 0 where
 
 -- a step: it completes, or power goes and a durable line that is not written by it is as it was
 pub record Stepped (m : Meaning) (s : Step) (r : Result Unit MemoryFault) (m′ : Meaning) : Type 0 where
+  pub count : length (m′ .lines) ≡ length (m .lines)
   pub done : r ≡ Ok tt → (l : ℕ) → contentAt m′ l ≡ cond (isWriteOf s l) (newContent l) (contentAt m l)
   pub safe : r ≡ Ok tt → (l : ℕ) → isWriteOf s l ≡ false → memory.Durable m l → memory.Durable m′ l
   pub fenced : r ≡ Ok tt → s ≡ Fence → (l : ℕ) → memory.Durable m′ l

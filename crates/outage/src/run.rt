@@ -1,4 +1,9 @@
 // Runs the story in a memory, and reads what stands after the outage.
+ghost use mathlib.Core.Path.{_≡_};
+ghost use mathlib.Core.Bool.{true};
+ghost use Prim.Native.Nat.{_≤_};
+ghost use lib.ListN.{length};
+ghost use Rattle.std.specs.Results.{isOk};
 ghost use Rattle.std.specs.Vec.{made};
 ghost use Rattle.outage.specs.History.{Tells};
 ghost use Rattle.outage.specs.Run.{Settled, Stepped, Kept, Found, Honest, AsAsked};
@@ -29,7 +34,9 @@ pub struct Account {
 
 // Gives every line its old content, durable.
 fn settle<M: Memory>(memory: &mut M) -> Result<(), MemoryFault>
-    ensures { λ r. ⌜ made r (λ _. Settled (M·Memory .meaning (now (memory .exit)))) ⌝ }
+    ensures settled { λ r. ⌜ made r (λ _. Settled (M·Memory .meaning (now (memory .exit)))) ⌝ }
+    ensures count { λ _. ⌜ length (M·Memory .meaning (now (memory .exit)) .lines) ≡ length (M·Memory .meaning (now (memory .entry)) .lines) ⌝ }
+    ensures given { λ r. ⌜ (6 ≤ length (M·Memory .meaning (now (memory .entry)) .lines) → isOk r ≡ true) ⌝ }
 {
     memory.power_up(u32::MAX);
     for line in 0..LINES as u16 {
@@ -52,6 +59,7 @@ fn take_step<M: Memory>(memory: &mut M, step: Step) -> Result<(), MemoryFault>
 // Takes the steps in order, up to the first that does not complete.
 fn take_steps<'a, M: Memory>(memory: &mut M, steps: &'a [Step]) -> History<'a>
     ensures tells { λ r. ⌜ Tells (now (steps .entry)) r ⌝ }
+    ensures count { λ _. ⌜ length (M·Memory .meaning (now (memory .exit)) .lines) ≡ length (M·Memory .meaning (now (memory .entry)) .lines) ⌝ }
     ensures kept { λ r. ⌜ Kept (M·Memory .meaning) (now (memory .entry)) r (now (memory .exit)) ⌝ }
 {
     for (i, step) in steps.iter().enumerate() {
@@ -70,7 +78,8 @@ fn take_steps<'a, M: Memory>(memory: &mut M, steps: &'a [Step]) -> History<'a>
 }
 
 fn read_lines<M: Memory>(memory: &M) -> Result<[Stands; LINES], MemoryFault>
-    ensures { λ r. ⌜ made r (Found (M·Memory .meaning (now (memory .entry)))) ⌝ }
+    ensures found { λ r. ⌜ made r (Found (M·Memory .meaning (now (memory .entry)))) ⌝ }
+    ensures given { λ r. ⌜ (6 ≤ length (M·Memory .meaning (now (memory .entry)) .lines) → M·Memory .meaning (now (memory .entry)) .on ≡ true → isOk r ≡ true) ⌝ }
 {
     let mut stands = [Stands::Other; LINES];
     for line in 0..LINES {
@@ -82,7 +91,8 @@ fn read_lines<M: Memory>(memory: &M) -> Result<[Stands; LINES], MemoryFault>
 
 // Loses power after some operations of the story, and powers up again to read.
 fn lose_power<M: Memory>(memory: &mut M, operations: u32) -> Result<Account, MemoryFault>
-    ensures { λ r. ⌜ made r (λ a. (k : Kind) → Honest (M·Memory .meaning) k → AsAsked k a) ⌝ }
+    ensures asked { λ r. ⌜ made r (λ a. (k : Kind) → Honest (M·Memory .meaning) k → AsAsked k a) ⌝ }
+    ensures given { λ r. ⌜ (6 ≤ length (M·Memory .meaning (now (memory .entry)) .lines) → isOk r ≡ true) ⌝ }
 {
     settle(memory)?;
     memory.power_up(operations);
@@ -92,9 +102,10 @@ fn lose_power<M: Memory>(memory: &mut M, operations: u32) -> Result<Account, Mem
     Ok(Account { history, stands })
 }
 
-// A line that is durable stands as asked.
+// Each run gives an account, in which a line that is durable stands as asked.
 pub(crate) fn account_of(kind: Kind, part: Part) -> Result<Account, MemoryFault>
-    ensures { λ r. ⌜ made r (AsAsked kind) ⌝ }
+    ensures asked { λ r. ⌜ made r (AsAsked kind) ⌝ }
+    ensures given { λ r. ⌜ isOk r ≡ true ⌝ }
 {
     let mut bytes = [0; 64 * LINES];
     let operations = part.operations();

@@ -21,6 +21,7 @@ returns-in-Err g c =
     let part : take (i - 0) ss ≡ take i ss = ap (λ n. take n ss) (omega arith) in
     record {
       tells = (i, c .loop-i-test .taken, part, refl);
+      count = c .in-Err .ensures tt .count ∙ c .loop-i .inv .2;
       kept = λ k honest l old safe q.
           kept m m′ (getD ss i (Write 0)) l (c .in-Err .fault) (c .in-Err .ensures tt) (durabilityBy k (take (i - 0) ss) l) (askedBy (take (i - 0) ss) l) q
           (λ e. c .loop-i .inv .1 k honest l safe (ap (λ xs. durabilityBy k xs l) (sym part) ∙ e))
@@ -36,12 +37,14 @@ loop-i-again g c =
     let s = getD ss i (Write 0) in (
       λ l old. content-more m m′ s l (c .in-rest .ensures tt) (askedBy (take i ss) l) _ (folded-more (askedNext l) Nothing ss i (Write 0) (c .loop-i-test .taken)) (c .loop-i .inv .0 l old),
       λ k honest l safe q. safe-more k m m′ s l (c .in-rest .ensures tt) (durabilityBy k (take i ss) l) _ (folded-more (durabilityNext k l) Durable ss i (Write 0) (c .loop-i-test .taken)) (λ e. honest e (c .take-step .last .memory) l) (c .loop-i .inv .1 k honest l safe) q,
+      c .in-rest .ensures tt .count ∙ c .loop-i .inv .2,
     )
 
 pub returns : need.returns
 returns g c =
     record {
       tells = refl;
+      count = c .loop-i .inv .2;
       kept = λ k honest l old safe q.
           c .loop-i .inv .0 l old ∙ ap (λ ss. contentFor (askedBy ss l) l) (take-all (c .loop-i .i) (c .args .steps .now) (c .loop-i-test .left));
     }
