@@ -20,7 +20,7 @@ returns-then-not-is-sound c =
 pub loop-held-preserved : goal.loop-held-preserved
 loop-held-preserved c =
     walk_more c.args.sizes.now c.loop-held.taken c.args.entries.now c.loop-held.held-index _ _ c.loop-held.invariant
-    c.loop-held-test.true c.if-not-is-sound.ensures c.if-taken-held-ne0.false
+    c.loop-held-test.true c.if-not-is_sound.ensures c.if-taken-held-ne0.false
 
 pub returns : goal.returns
 returns c = walk_end c.args.sizes.now c.loop-held.taken c.args.entries.now c.loop-held.held-index _ c.loop-held-test.false c.loop-held.invariant

@@ -5,5 +5,5 @@ use Rattle.layout.proofs.block.is_block.Goals as goal
 
 pub returns-then-entries-sizes : goal.returns-then-entries-sizes
 returns-then-entries-sizes c =
-    let test : c.all-sound.result ≡ block_sound c.args.sizes.now c.args.entries.now = c.all-sound.ensures ∙ block_test c.args.sizes.now c.args.entries.now c.if-entries-sizes.true in
+    let test : c.all_sound.result ≡ block_sound c.args.sizes.now c.args.entries.now = c.all_sound.ensures ∙ block_test c.args.sizes.now c.args.entries.now c.if-entries-sizes.true in
     record { test = test; rules = λ e. block_rules c.args.sizes.now c.args.entries.now (sym test ∙ e) }

@@ -15,7 +15,7 @@ was s l x fs p out a q = alike s.bytes s.bytes fs s.queue p s.power refl (a ∙ 
 pub enter-requires : goal.enter-requires
 enter-requires c =
     let before = was (parts_of c.args.self.now) c.args.line c.args.content.now _ _ (sym c.if-renew.ensures.queued) c.renew.ensures.entries c.renew.ensures.power in
-    let after = c.make-room.ensures.parts ∙ ap (λ (s : Parts). roomy s) before in (
+    let after = c.make_room.ensures.parts ∙ ap (λ (s : Parts). roomy s) before in (
       ap (λ (s : Parts). is_on s.power) after ∙ c.requires,
       (
         (let long = ap (λ (s : Parts). length s.queue) after in omega (arith, room_length (parts_of c.args.self.now) (few_of c.args.self.now))),
@@ -36,9 +36,9 @@ pub returns : goal.returns
 returns c =
     let out = sym c.if-renew.ensures.queued in
     let before = was (parts_of c.args.self.now) c.args.line c.args.content.now _ _ out c.renew.ensures.entries c.renew.ensures.power in
-    let room = c.make-room.ensures.parts ∙ ap (λ (s : Parts). roomy s) before in
+    let room = c.make_room.ensures.parts ∙ ap (λ (s : Parts). roomy s) before in
     record {
-      parts = enter_parts (parts_of c.args.self.now) (parts_of c.make-room.new.self) c.args.line c.args.content.now _ _ _ out room refl c.enter.ensures.entries c.enter.ensures.power;
-      choice = c.make-room.ensures.choice;
-      lender = c.make-room.ensures.lender;
+      parts = enter_parts (parts_of c.args.self.now) (parts_of c.make_room.new.self) c.args.line c.args.content.now _ _ _ out room refl c.enter.ensures.entries c.enter.ensures.power;
+      choice = c.make_room.ensures.choice;
+      lender = c.make_room.ensures.lender;
     }

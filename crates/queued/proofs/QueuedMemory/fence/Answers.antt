@@ -13,15 +13,15 @@ returns-then-not-spend c =
     let s = parts_of c.args.self.now in
     let none = sym c.if-not-spend.ensures.completes in
     let asked = asked_none s _ _ none c.spend.ensures.entries c.spend.ensures.power in
-    let w = fences_goes c.args.self.now.choice s (full_of c.args.self.now) (parts_of c.lose-power.new.self)
-    (sym c.if-not-is-on.ensures) none (c.lose-power.ensures.parts ∙ ap (darkened c.args.self.now.choice) asked) in
+    let w = fences_goes c.args.self.now.choice s (full_of c.args.self.now) (parts_of c.lose_power.new.self)
+    (sym c.if-not-is_on.ensures) none (c.lose_power.ensures.parts ∙ ap (darkened c.args.self.now.choice) asked) in
     record {
       did = w.did;
-      sound = sound_of c.lose-power.new.self;
+      sound = sound_of c.lose_power.new.self;
       parts = w.parts;
       rest = w.rest;
-      choice = c.lose-power.ensures.choice;
-      lender = c.lose-power.ensures.lender;
+      choice = c.lose_power.ensures.choice;
+      lender = c.lose_power.ensures.lender;
     }
 
 pub returns : goal.returns

@@ -5,4 +5,4 @@ use Rattle.queued.proofs.QueuedMemory.line_count.Goals as goal
 
 pub returns : goal.returns
 returns c =
-    record { count = c.line-count.ensures ∙ sym (count_of_lem (parts_of c.args.self.now)); sound = sound_of c.args.self.now }
+    record { count = c.line_count.ensures ∙ sym (count_of_lem (parts_of c.args.self.now)); sound = sound_of c.args.self.now }

@@ -12,6 +12,6 @@ returns-then-not-is-on c =
 
 pub returns : goal.returns
 returns c =
-    read_on (parts_of c.args.self.now) c.args.line c.in-Some.below (sym c.in-Some.ensures) c.unwrap-or.result
-    (sym c.if-not-is-on.ensures)
-    (c.unwrap-or.ensures ∙ ap (λ (o : Option (List ℕ)). unwrap_or o c.in-Some.below) c.content.ensures)
+    read_on (parts_of c.args.self.now) c.args.line c.in-Some.below (sym c.in-Some.ensures) c.unwrap_or.result
+    (sym c.if-not-is_on.ensures)
+    (c.unwrap_or.ensures ∙ ap (λ (o : Option (List ℕ)). unwrap_or o c.in-Some.below) c.content.ensures)

@@ -20,16 +20,16 @@ returns-then-not-spend c =
     let s = parts_of c.args.self.now in
     let none = sym c.if-not-spend.ensures.completes in
     let asked = asked_none s _ _ none c.spend.ensures.entries c.spend.ensures.power in
-    let w = writes_goes c.args.self.now.choice s (full_of c.args.self.now) c.args.line c.args.content.now (parts_of c.lose-power.new.self)
-    (sym c.if-not-has-line.ensures) (sym c.if-not-is-on.ensures) none (c.lose-power.ensures.parts ∙ ap (darkened c.args.self.now.choice) asked) in
+    let w = writes_goes c.args.self.now.choice s (full_of c.args.self.now) c.args.line c.args.content.now (parts_of c.lose_power.new.self)
+    (sym c.if-not-has_line.ensures) (sym c.if-not-is_on.ensures) none (c.lose_power.ensures.parts ∙ ap (darkened c.args.self.now.choice) asked) in
     record {
       did = w.did;
-      sound = sound_of c.lose-power.new.self;
-      queue = once_of c.lose-power.new.self;
+      sound = sound_of c.lose_power.new.self;
+      queue = once_of c.lose_power.new.self;
       parts = w.parts;
       rest = w.rest;
-      choice = c.lose-power.ensures.choice;
-      lender = c.lose-power.ensures.lender;
+      choice = c.lose_power.ensures.choice;
+      lender = c.lose_power.ensures.lender;
     }
 
 pub returns : goal.returns
@@ -37,14 +37,14 @@ returns c =
     let s = parts_of c.args.self.now in
     let some = sym c.if-not-spend.ensures.completes in
     let asked = asked_paid s _ _ some c.spend.ensures.entries c.spend.ensures.power in
-    let w = writes_on c.args.self.now.choice s (full_of c.args.self.now) c.args.line c.args.content.now (parts_of c.take-write.new.self)
-    (sym c.if-not-has-line.ensures) some (c.take-write.ensures.parts ∙ ap (entered c.args.line c.args.content.now) asked) in
+    let w = writes_on c.args.self.now.choice s (full_of c.args.self.now) c.args.line c.args.content.now (parts_of c.take_write.new.self)
+    (sym c.if-not-has_line.ensures) some (c.take_write.ensures.parts ∙ ap (entered c.args.line c.args.content.now) asked) in
     record {
       did = w.did;
-      sound = sound_of c.take-write.new.self;
-      queue = once_of c.take-write.new.self;
+      sound = sound_of c.take_write.new.self;
+      queue = once_of c.take_write.new.self;
       parts = w.parts;
       rest = w.rest;
-      choice = c.take-write.ensures.choice;
-      lender = c.take-write.ensures.lender;
+      choice = c.take_write.ensures.choice;
+      lender = c.take_write.ensures.lender;
     }

@@ -15,7 +15,7 @@ overflow-add-result c = let h = small _ _ _ c.args.sizes.now.records c.buckets.e
 
 pub returns : goal.returns
 returns c =
-    let h = small _ _ _ c.args.sizes.now.records c.buckets.ensures c.saturating-sub.ensures (search rules) in (
-      ap (λ (q : ℕ). q * c.args.sizes.now.records + c.args.self.now.closed) (c.saturating-sub.ensures ∙ ap (λ (n : ℕ). n - 1) c.buckets.ensures),
+    let h = small _ _ _ c.args.sizes.now.records c.buckets.ensures c.saturating_sub.ensures (search rules) in (
+      ap (λ (q : ℕ). q * c.args.sizes.now.records + c.args.self.now.closed) (c.saturating_sub.ensures ∙ ap (λ (n : ℕ). n - 1) c.buckets.ensures),
       search rules,
     )

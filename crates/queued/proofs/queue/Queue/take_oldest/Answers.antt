@@ -22,5 +22,5 @@ pub returns : goal.returns
 returns c =
     record {
       oldest = oldest_out c.args.self.now.slots _ c.args.self.now.len _
-          (omega (arith, length-take c.args.self.now.len c.args.self.now.slots)) (omega arith) c.rotate-left.ensures.after;
+          (omega (arith, length-take c.args.self.now.len c.args.self.now.slots)) (omega arith) c.rotate_left.ensures.after;
     }
