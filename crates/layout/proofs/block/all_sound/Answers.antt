@@ -1,18 +1,18 @@
 use Rattle.std.proofs.Common.{refl}
 use Rattle.layout.proofs.Blocks.{walk_more, walk_unsound, walk_shared, walk_end}
 use Rattle.layout.proofs.block.all_sound.Goals as goal
-use Rattle.layout.proofs.block.all_sound.Goals.{then-not-is-sound-via-then-not-is-sound, then-not-is-sound-via-else-not-is-sound+then-taken-held-ne0}
+use Rattle.layout.proofs.block.all_sound.Goals.{then-not-is_sound-via-then-not-is_sound, then-not-is_sound-via-else-not-is_sound+then-taken-held-ne0}
 
 pub loop-held-init : goal.loop-held-init
 loop-held-init c = refl
 
-pub returns-then-not-is-sound : goal.returns-then-not-is-sound
-returns-then-not-is-sound c =
-    elim c.then-not-is-sound.branch [
-      | then-not-is-sound-via-then-not-is-sound w ↦
+pub returns-then-not-is_sound : goal.returns-then-not-is_sound
+returns-then-not-is_sound c =
+    elim c.then-not-is_sound.branch [
+      | then-not-is_sound-via-then-not-is_sound w ↦
           walk_unsound c.args.sizes.now c.loop-held.taken c.args.entries.now c.loop-held.held-index _ _ c.loop-held.invariant
-          c.loop-held-test.true w.if-not-is-sound.ensures
-      | then-not-is-sound-via-else-not-is-sound+then-taken-held-ne0 w ↦
+          c.loop-held-test.true w.if-not-is_sound.ensures
+      | then-not-is_sound-via-else-not-is_sound+then-taken-held-ne0 w ↦
           walk_shared c.args.sizes.now c.loop-held.taken c.args.entries.now c.loop-held.held-index _ _ c.loop-held.invariant
           c.loop-held-test.true w.if-taken-held-ne0.true
     ]

@@ -3,9 +3,9 @@ use Rattle.queued.specs.Queued.{parts_of, darkened, drained}
 use Rattle.queued.proofs.Meant.{sound_of, full_of, asked_paid, asked_none, fences_off, fences_goes, fences_on}
 use Rattle.queued.proofs.QueuedMemory.fence.Goals as goal
 
-pub returns-then-not-is-on : goal.returns-then-not-is-on
-returns-then-not-is-on c =
-    let w = fences_off c.args.self.now.choice (parts_of c.args.self.now) (full_of c.args.self.now) (sym c.if-not-is-on.ensures) in
+pub returns-then-not-is_on : goal.returns-then-not-is_on
+returns-then-not-is_on c =
+    let w = fences_off c.args.self.now.choice (parts_of c.args.self.now) (full_of c.args.self.now) (sym c.if-not-is_on.ensures) in
     record { did = w.did; sound = sound_of c.args.self.now; parts = w.parts; rest = w.rest; choice = refl; lender = refl }
 
 pub returns-then-not-spend : goal.returns-then-not-spend

@@ -3,16 +3,16 @@ use Rattle.queued.specs.Queued.{parts_of, darkened, entered}
 use Rattle.queued.proofs.Meant.{sound_of, once_of, full_of, asked_paid, asked_none, writes_none, writes_off, writes_goes, writes_on}
 use Rattle.queued.proofs.QueuedMemory.write.Goals as goal
 
-pub returns-then-not-has-line : goal.returns-then-not-has-line
-returns-then-not-has-line c =
+pub returns-then-not-has_line : goal.returns-then-not-has_line
+returns-then-not-has_line c =
     let w = writes_none c.args.self.now.choice (parts_of c.args.self.now) (full_of c.args.self.now) c.args.line c.args.content.now
-    (sym c.if-not-has-line.ensures) in
+    (sym c.if-not-has_line.ensures) in
     record { did = w.did; sound = sound_of c.args.self.now; queue = once_of c.args.self.now; parts = w.parts; rest = w.rest; choice = refl; lender = refl }
 
-pub returns-then-not-is-on : goal.returns-then-not-is-on
-returns-then-not-is-on c =
+pub returns-then-not-is_on : goal.returns-then-not-is_on
+returns-then-not-is_on c =
     let w = writes_off c.args.self.now.choice (parts_of c.args.self.now) (full_of c.args.self.now) c.args.line c.args.content.now
-    (sym c.if-not-has-line.ensures) (sym c.if-not-is-on.ensures) in
+    (sym c.if-not-has_line.ensures) (sym c.if-not-is_on.ensures) in
     record { did = w.did; sound = sound_of c.args.self.now; queue = once_of c.args.self.now; parts = w.parts; rest = w.rest; choice = refl; lender = refl }
 
 pub returns-then-not-spend : goal.returns-then-not-spend

@@ -7,11 +7,11 @@ use Rattle.layout.proofs.block.BlockEntry.records.Goals as goal
 small : (v n q r : ℕ) → n ≡ buckets_in 32 v → q ≡ n - 1 → r ≤ 255 → q * r ≤ 31 * 255
 small v n q r e p k = mul-le q r 31 255 (omega (arith, most_in 32 v)) k
 
-pub overflow-mul-result : goal.overflow-mul-result
-overflow-mul-result c = let h = small _ _ _ c.args.sizes.now.records c.buckets.ensures c.saturating-sub.ensures (search rules) in search rules
+pub overflow_mul-result : goal.overflow_mul-result
+overflow_mul-result c = let h = small _ _ _ c.args.sizes.now.records c.buckets.ensures c.saturating_sub.ensures (search rules) in search rules
 
-pub overflow-add-result : goal.overflow-add-result
-overflow-add-result c = let h = small _ _ _ c.args.sizes.now.records c.buckets.ensures c.saturating-sub.ensures (search rules) in search rules
+pub overflow_add-result : goal.overflow_add-result
+overflow_add-result c = let h = small _ _ _ c.args.sizes.now.records c.buckets.ensures c.saturating_sub.ensures (search rules) in search rules
 
 pub returns : goal.returns
 returns c =

@@ -23,18 +23,15 @@ ended c =
     rw (sym end)
     (ap (take c.loop-i.i) c.loop-i.invariant.0 ∙ renewed_all c.args.line c.args.content.now c.args.self.now.slots c.loop-i.i (omega arith))
 
-pub invariant_of_self : goal.invariant_of_self
-invariant_of_self c =
-    let slots = c.args.self.now.slots in (
-      length-renewed c.args.line c.args.content.now slots c.loop-i.slots c.loop-i.i c.loop-i.invariant.0 ∙ c.args.self.now.sixteen,
-      (
-        c.args.self.now.few,
-        (
-          whole_renewed c.args.line c.args.content.now slots c.loop-i.slots c.loop-i.i c.told-content c.loop-i.invariant.0 c.args.self.now.whole,
-          (ap distinct (ended c) ∙ (distinct_renewed c.args.line c.args.content.now (take c.args.self.now.len slots) ∙ c.args.self.now.once), tt),
-        ),
-      ),
-    )
+pub invariant_of-self : goal.invariant_of-self
+invariant_of-self c =
+    let slots = c.args.self.now.slots in
+    record {
+      sixteen = length-renewed c.args.line c.args.content.now slots c.loop-i.slots c.loop-i.i c.loop-i.invariant.0 ∙ c.args.self.now.sixteen;
+      few = c.args.self.now.few;
+      whole = whole_renewed c.args.line c.args.content.now slots c.loop-i.slots c.loop-i.i c.told-content c.loop-i.invariant.0 c.args.self.now.whole;
+      once = ap distinct (ended c) ∙ (distinct_renewed c.args.line c.args.content.now (take c.args.self.now.len slots) ∙ c.args.self.now.once);
+    }
 
 pub returns : goal.returns
 returns c =
