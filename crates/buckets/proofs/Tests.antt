@@ -1,7 +1,7 @@
 -- The test of a bucket: its walks over the block and over the open records, and what it tells, core by core.
 use Rattle.std.proofs.Common.{◌≡◌, ℕ, zero, suc, ◌+◌, ◌<◌, ◌≤◌, Bool, true, false, ◌||◌, List, [], ◌∷◌, length, get_or, drop, Some, None, Option, sym, refl, ap, ◌∙◌, arith}
 use Rattle.std.proofs.lemmas.List.{at_drop_more, at_drop_all}
-use Rattle.std.proofs.lemmas.Bool.{and_parts, and_from, not_true, not_from_false, or_parts, or_from, eqb-false, ne_eqb}
+use Rattle.std.proofs.lemmas.Bool.{and_parts, and_from, not-true, not_from_false, or_parts, or_from, eqb-false, ne_eqb}
 use Rattle.layout.specs.declared.block.BlockEntry.{BlockEntry}
 use Rattle.layout.specs.declared.«open».OpenRecord.{OpenRecord}
 use Rattle.layout.specs.Block.{entry_at, has}
@@ -72,7 +72,7 @@ unused_from b (q ∷ os) h = or_from _ _ (elsewhere_test b q (h 0)) (unused_from
 pub free_is : (block : List BlockEntry) (opens : List (Option OpenRecord)) (b : ℕ) → free block opens b ≡ true → Free block opens b
 free_is block opens b h =
     let p = and_parts _ _ h in
-    record { unclaimed = unclaimed_at b block (not_true _ p.0); unused = unused_at b opens (not_true _ p.1) }
+    record { unclaimed = unclaimed_at b block (not-true _ p.0); unused = unused_at b opens (not-true _ p.1) }
 
 pub free_test : (block : List BlockEntry) (opens : List (Option OpenRecord)) (b : ℕ) → Free block opens b → free block opens b ≡ true
 free_test block opens b h =

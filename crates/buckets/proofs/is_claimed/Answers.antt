@@ -7,11 +7,11 @@ loop-held-init c = refl
 
 pub loop-held-preserved : goal.loop-held-preserved
 loop-held-preserved c =
-    claimed_more c.args.bucket c.args.block.now c.loop-held.held-index _ _ c.loop-held-test.true c.loop-held.invariant c.if-has-bucket.ensures
+    claimed_more c.args.bucket c.args.block.now c.loop-held.held-index _ _ c.loop-held-test.true c.loop-held.invariant c.if-has_bucket.ensures
 
-pub returns-then-has-bucket : goal.returns-then-has-bucket
-returns-then-has-bucket c =
-    claimed_found c.args.bucket c.args.block.now c.loop-held.held-index _ _ c.loop-held-test.true c.loop-held.invariant c.if-has-bucket.ensures
+pub returns-then-has_bucket : goal.returns-then-has_bucket
+returns-then-has_bucket c =
+    claimed_found c.args.bucket c.args.block.now c.loop-held.held-index _ _ c.loop-held-test.true c.loop-held.invariant c.if-has_bucket.ensures
 
 pub returns : goal.returns
 returns c = claimed_end c.args.bucket c.args.block.now c.loop-held.held-index _ c.loop-held-test.false c.loop-held.invariant

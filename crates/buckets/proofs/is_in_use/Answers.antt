@@ -7,11 +7,11 @@ loop-opened-init c = refl
 
 pub loop-opened-preserved : goal.loop-opened-preserved
 loop-opened-preserved c =
-    use_more c.args.bucket c.args.«open».now c.loop-opened.opened-index _ _ c.loop-opened-test.true c.loop-opened.invariant c.if-lies-in.ensures
+    use_more c.args.bucket c.args.«open».now c.loop-opened.opened-index _ _ c.loop-opened-test.true c.loop-opened.invariant c.if-lies_in.ensures
 
-pub returns-then-lies-in : goal.returns-then-lies-in
-returns-then-lies-in c =
-    use_found c.args.bucket c.args.«open».now c.loop-opened.opened-index _ _ c.loop-opened-test.true c.loop-opened.invariant c.if-lies-in.ensures
+pub returns-then-lies_in : goal.returns-then-lies_in
+returns-then-lies_in c =
+    use_found c.args.bucket c.args.«open».now c.loop-opened.opened-index _ _ c.loop-opened-test.true c.loop-opened.invariant c.if-lies_in.ensures
 
 pub returns : goal.returns
 returns c = use_end c.args.bucket c.args.«open».now c.loop-opened.opened-index _ c.loop-opened-test.false c.loop-opened.invariant

@@ -9,13 +9,13 @@ loop-bucket-init c = lowest_start (free c.args.block.now c.args.«open».now) c.
 pub loop-bucket-preserved : goal.loop-bucket-preserved
 loop-bucket-preserved c =
     lowest_more (free c.args.block.now c.args.«open».now) c.args.buckets c.loop-bucket.bucket _ c.loop-bucket-test.true
-    (sym c.if-is-free.ensures) c.loop-bucket.invariant
+    (sym c.if-is_free.ensures) c.loop-bucket.invariant
 
-pub returns-then-is-free : goal.returns-then-is-free
-returns-then-is-free c =
+pub returns-then-is_free : goal.returns-then-is_free
+returns-then-is_free c =
     let found : Some c.loop-bucket.bucket ≡ lowest_free (free c.args.block.now c.args.«open».now) c.args.buckets 0 =
     lowest_found (free c.args.block.now c.args.«open».now) c.args.buckets c.loop-bucket.bucket _ c.loop-bucket-test.true
-    (sym c.if-is-free.ensures) c.loop-bucket.invariant in
+    (sym c.if-is_free.ensures) c.loop-bucket.invariant in
     record { found = found; lowest = lowest_free_lem c.args.block.now c.args.«open».now c.args.buckets _ found }
 
 pub returns : goal.returns

@@ -7,4 +7,4 @@ use Rattle.header.proofs.address_at.Goals as goal
 
 pub returns : goal.returns
 unfolding address_at
-returns c = let e : c.args.i * 8 ≡ 8 * c.args.i = omega arith in c.from-le-bytes.ensures ∙ sym (number_8 (c.args.i * 8) c.args.bytes.now) ∙ ap (λ (k : ℕ). number_of (take 8 (drop k c.args.bytes.now))) e
+returns c = let e : c.args.i * 8 ≡ 8 * c.args.i = omega arith in c.from_le_bytes.ensures ∙ sym (number_8 (c.args.i * 8) c.args.bytes.now) ∙ ap (λ (k : ℕ). number_of (take 8 (drop k c.args.bytes.now))) e

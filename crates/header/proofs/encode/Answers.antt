@@ -20,6 +20,6 @@ joined h bs cs n m e l a q f =
 pub returns : goal.returns
 unfolding written
 returns c =
-    let did = joined c.args.header.now c.put-addresses.new.bytes c.put.new.bytes _ _ c.put.ensures c.put-addresses.array_long c.put-addresses.ensures.put
-    (four c.to-le-bytes.result _ _ _ _ c.to-le-bytes.ensures ∙ bytes_4 _) (length-bytes_of 4 _) in
-    record { written = did; back = λ s k. ap (read_header s) did ∙ reads_back s c.args.header.now k c.put-addresses.ensures.fits }
+    let did = joined c.args.header.now c.put_addresses.new.bytes c.put.new.bytes _ _ c.put.ensures c.put_addresses.array_long c.put_addresses.ensures.put
+    (four c.to_le_bytes.result _ _ _ _ c.to_le_bytes.ensures ∙ bytes_4 _) (length-bytes_of 4 _) in
+    record { written = did; back = λ s k. ap (read_header s) did ∙ reads_back s c.args.header.now k c.put_addresses.ensures.fits }

@@ -6,13 +6,13 @@ use Rattle.header.specs.Header.{address_at}
 use Rattle.header.proofs.Good.{lines_more}
 use Rattle.header.proofs.lines_in.Goals as goal
 
-pub overflow-cast-lines : goal.overflow-cast-lines
-overflow-cast-lines c =
+pub overflow_cast-lines : goal.overflow_cast-lines
+overflow_cast-lines c =
     let h : address_at c.args.bytes.now c.loop-i.i / 64 < 65536 = c.requires c.loop-i.i (omega arith) in
-    let q = c.address-at.ensures in search rules
+    let q = c.address_at.ensures in search rules
 
 pub loop-i-preserved : goal.loop-i-preserved
-loop-i-preserved c = (length-set _ _ _ ∙ c.loop-i.invariant.0, lines_more c.args.bytes.now c.loop-i.lines c.loop-i.i c.address-at.result (omega arith) c.address-at.ensures c.loop-i.invariant.1)
+loop-i-preserved c = (length-set _ _ _ ∙ c.loop-i.invariant.0, lines_more c.args.bytes.now c.loop-i.lines c.loop-i.i c.address_at.result (omega arith) c.address_at.ensures c.loop-i.invariant.1)
 
 pub returns : goal.returns
 returns c =

@@ -12,4 +12,4 @@ put_mid a n bs ys zs e q =
 
 pub returns : goal.returns
 unfolding patched
-returns c = put_mid c.args.at _ c.args.bytes.now _ _ c.copy-from-slice.ensures.after refl
+returns c = put_mid c.args.at _ c.args.bytes.now _ _ c.copy_from_slice.ensures.after refl

@@ -12,10 +12,10 @@ loop-i-init c = (search rules, refl)
 
 pub loop-i-preserved : goal.loop-i-preserved
 loop-i-preserved c =
-    let e = c.to-le-bytes.ensures ∙ bytes_8 _ in (
+    let e = c.to_le_bytes.ensures ∙ bytes_8 _ in (
       c.put.array_long,
-      ap (take ((c.loop-i.i + 1) * 8)) c.put.ensures ∙ put_more c.loop-i.bytes c.to-le-bytes.result c.args.lines.now c.loop-i.i _
-          (search rules) (omega arith) refl e (ap length c.to-le-bytes.ensures) c.loop-i.invariant.1,
+      ap (take ((c.loop-i.i + 1) * 8)) c.put.ensures ∙ put_more c.loop-i.bytes c.to_le_bytes.result c.args.lines.now c.loop-i.i _
+          (search rules) (omega arith) refl e (ap length c.to_le_bytes.ensures) c.loop-i.invariant.1,
     )
 
 pub returns : goal.returns

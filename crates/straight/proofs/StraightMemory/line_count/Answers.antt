@@ -6,6 +6,6 @@ use Rattle.straight.proofs.StraightMemory.line_count.Goals as goal
 pub returns : goal.returns
 returns c =
     record {
-      count = c.line-count.ensures ∙ sym (lines_length c.args.self.now.bytes.now);
+      count = c.line_count.ensures ∙ sym (lines_length c.args.self.now.bytes.now);
       sound = sound_in c.args.self.now.bytes.now c.args.self.now.power;
     }
