@@ -1,9 +1,7 @@
--- A comparison of two lines as a test, what each way through three of them is called, and that old and new are told
--- apart.
+-- What the old and the new content of a line are called, and that they are told apart.
 use Rattle.std.proofs.Common.{◌≡◌, ℕ, ◌+◌, ◌%◌, Bool, true, false, List, get_or, Decides, sym, refl, ap, ◌∙◌, arith, rules}
-use Rattle.std.specs.Cmp.Lexicographic.{Matches}
 use Rattle.std.specs.Str.{bytes_eq}
-use Rattle.std.proofs.lemmas.Slice.Eq.{slice_eq-Decides, bytes_eq-Decides}
+use Rattle.std.proofs.lemmas.Slice.Eq.{bytes_eq-Decides}
 use Rattle.lines.specs.Lines.{torn}
 use Rattle.outage.specs.declared.content.Stands.TheVariants.{Old, New, Torn, Other}
 use Rattle.outage.specs.declared.history.Asked.{Asked}
@@ -11,14 +9,6 @@ use Rattle.outage.specs.declared.history.Asked.TheVariants.{Nothing}
 use Rattle.outage.specs.declared.history.Asked.TheVariants as asked
 use Rattle.outage.specs.Content.{old_content, new_content, called}
 use Rattle.outage.specs.Run.{content_for, stands_for}
-use Rattle.std.proofs.lemmas.Bool.Decides.{Decides-eqb}
-
-decided : (xs ys : List ℕ) (r : Bool) → Decides r (xs ≡ ys) → r ≡ bytes_eq xs ys
-decided xs ys r h = search (rules, bytes_eq-Decides)
-
--- x was compared with y, which is z: r says whether x is z
-pub compared : (x y z : List ℕ) (r t : Bool) → Matches (λ (a b : ℕ) (t : Bool). Decides t (a ≡ b)) x y r → y ≡ z → r ≡ t → bytes_eq x z ≡ t
-compared x y z r t m e f = ap (bytes_eq x) (sym e) ∙ (sym (decided x y r (slice_eq-Decides Decides-eqb x y r m)) ∙ f)
 
 module _ (l : ℕ) (x : List ℕ) where
   pub called_old : bytes_eq x (old_content l) ≡ true → Old ≡ called l x
@@ -26,12 +16,6 @@ module _ (l : ℕ) (x : List ℕ) where
 
   pub called_new : bytes_eq x (old_content l) ≡ false → bytes_eq x (new_content l) ≡ true → New ≡ called l x
   called_new a b = rw (a, b) refl
-
-  pub called_torn : bytes_eq x (old_content l) ≡ false → bytes_eq x (new_content l) ≡ false → bytes_eq x (torn (old_content l) (new_content l)) ≡ true → Torn ≡ called l x
-  called_torn a b c = rw (a, b, c) refl
-
-  pub called_other : bytes_eq x (old_content l) ≡ false → bytes_eq x (new_content l) ≡ false → bytes_eq x (torn (old_content l) (new_content l)) ≡ false → Other ≡ called l x
-  called_other a b c = rw (a, b, c) refl
 
 same : (x : List ℕ) → bytes_eq x x ≡ true
 same x = (bytes_eq-Decides x x).1 refl

@@ -6,9 +6,9 @@ use Rattle.outage.proofs.run.lose_power.Goals as goal
 pub returns : goal.returns
 returns g c =
     let means = g.M.Memory.meaning in
-    let settled = settled_on (means c.settle.new.memory) (means c.power-up.new.self) c.args.operations c.power-up.ensures.did c.in-ok-settle.ensures.settled in
+    let settled = settled_on (means c.settle.new.memory) (means c.power_up.new.self) c.args.operations c.power_up.ensures.did c.in_ok-settle.ensures.settled in
     record {
       asked = λ k honest l h q.
-          reads_as_asked (means c.take-steps-history.new.memory) (means c.power-up-2.new.self) 0 (asked_in c.take-steps-history.result l) l _ c.power-up-2.ensures.did (c.take-steps-history.ensures.kept k honest l (settled.old l h) (settled.safe l) q) (c.in-ok-stands.ensures.found l h);
+          reads_as_asked (means c.take_steps-history.new.memory) (means c.power_up-2.new.self) 0 (asked_in c.take_steps-history.result l) l _ c.power_up-2.ensures.did (c.take_steps-history.ensures.kept k honest l (settled.old l h) (settled.safe l) q) (c.in_ok-stands.ensures.found l h);
       given = λ _. refl;
     }

@@ -5,6 +5,6 @@ use Rattle.outage.proofs.run.read_lines.Goals as goal
 
 pub loop-line-preserved : goal.loop-line-preserved
 loop-line-preserved g c = (
-  length-set c.loop-line.stands c.loop-line.line c.stands-as.result ∙ c.loop-line.invariant.0,
-  found_more (g.M.Memory.meaning c.args.memory.now) c.loop-line.line c.in-ok-read.field-0 c.stands-as.result c.loop-line.stands (omega (arith, c.loop-line.invariant.0)) c.in-ok-read.ensures c.stands-as.ensures c.loop-line.invariant.1,
+  length-set c.loop-line.stands c.loop-line.line c.stands_as.result ∙ c.loop-line.invariant.0,
+  found_more (g.M.Memory.meaning c.args.memory.now) c.loop-line.line c.in_ok-read.field-0 c.stands_as.result c.loop-line.stands (omega (arith, c.loop-line.invariant.0)) c.in_ok-read.ensures c.stands_as.ensures c.loop-line.invariant.1,
 )

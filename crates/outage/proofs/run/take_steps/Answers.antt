@@ -12,7 +12,7 @@ use Rattle.outage.proofs.run.take_steps.Goals as goal
 pub returns-in-Err : goal.returns-in-Err
 returns-in-Err g c =
     let m = g.M.Memory.meaning c.loop-i.memory in
-    let m' = g.M.Memory.meaning c.take-step.new.memory in
+    let m' = g.M.Memory.meaning c.take_step.new.memory in
     let ss = c.args.steps.now in
     let i = c.loop-i.i in
     let part : take (i - 0) ss ≡ take i ss = ap (λ n. take n ss) (omega arith) in
@@ -28,13 +28,13 @@ returns-in-Err g c =
 pub loop-i-preserved : goal.loop-i-preserved
 loop-i-preserved g c =
     let m = g.M.Memory.meaning c.loop-i.memory in
-    let m' = g.M.Memory.meaning c.take-step.new.memory in
+    let m' = g.M.Memory.meaning c.take_step.new.memory in
     let ss = c.args.steps.now in
     let i = c.loop-i.i in
     let s = get_or ss i (Write 0) in (
-      λ l old. content_more m m' s l c.in-default.ensures (asked_by (take i ss) l) _ (fold_more (asked_next l) Nothing ss i (Write 0) c.loop-i-test.true) (c.loop-i.invariant.0 l old),
-      λ k honest l safe q. safe_more k m m' s l c.in-default.ensures (durability_by k (take i ss) l) _ (fold_more (durability_next k l) Durable ss i (Write 0) c.loop-i-test.true) (λ e. honest e c.take-step.new.memory l) (c.loop-i.invariant.1 k honest l safe) q,
-      c.in-default.ensures.count ∙ c.loop-i.invariant.2,
+      λ l old. content_more m m' s l c.in_default.ensures (asked_by (take i ss) l) _ (fold_more (asked_next l) Nothing ss i (Write 0) c.loop-i-test.true) (c.loop-i.invariant.0 l old),
+      λ k honest l safe q. safe_more k m m' s l c.in_default.ensures (durability_by k (take i ss) l) _ (fold_more (durability_next k l) Durable ss i (Write 0) c.loop-i-test.true) (λ e. honest e c.take_step.new.memory l) (c.loop-i.invariant.1 k honest l safe) q,
+      c.in_default.ensures.count ∙ c.loop-i.invariant.2,
     )
 
 pub returns : goal.returns
