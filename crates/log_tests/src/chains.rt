@@ -3,7 +3,7 @@ use crate::common::SIZES;
 use header::{Header, encode};
 use layout::BlockEntry;
 use lines::write_line;
-use log::{Log, LogFault};
+use undo_log::{Log, LogFault};
 use memory::Memory;
 use straight::Straight;
 

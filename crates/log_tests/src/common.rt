@@ -1,6 +1,6 @@
 // A small log for the tests: 40 lines.
 use layout::{BlockEntry, Sizes};
-use log::{Log, LogFault};
+use undo_log::{Log, LogFault};
 use memory::Memory;
 use std::process::Abort;
 

@@ -1,7 +1,7 @@
 // The log manager: where entries go, when a record is closed, and when there is no room.
 use crate::common::{SIZES, begin, held};
 use layout::{BlockEntry, Sizes};
-use log::{Log, LogFault, Place};
+use undo_log::{Log, LogFault, Place};
 use memory::{Memory, MemoryFault, Operation};
 use std::process::Abort;
 use straight::Straight;

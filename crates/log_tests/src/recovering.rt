@@ -1,7 +1,7 @@
 // Recovery: what it restores, whatever the unfenced lines became, and at whichever operation power goes.
 use crate::common::begin;
 use layout::{BlockEntry, Sizes};
-use log::{Log, LogFault, Place};
+use undo_log::{Log, LogFault, Place};
 use memory::{Memory, MemoryFault, Operation};
 use queued::Queued;
 use recovery::recover;

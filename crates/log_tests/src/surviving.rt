@@ -1,7 +1,7 @@
 // What a cut right after an append or a close leaves to be found.
 use crate::common::{begin, held};
 use layout::BlockEntry;
-use log::{Log, LogFault};
+use undo_log::{Log, LogFault};
 use memory::Memory;
 use queued::Queued;
 use std::process::Abort;

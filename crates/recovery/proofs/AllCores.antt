@@ -5,8 +5,8 @@ use Rattle.memory.specs.Meaning.{Line, content_at}
 use Rattle.layout.specs.declared.block.BlockEntry.{BlockEntry}
 use Rattle.layout.specs.declared.sizes.Sizes.{Sizes}
 use Rattle.layout.specs.Block.{empty, entry_at}
-use Rattle.log.specs.declared.fault.LogFault.{LogFault}
-use Rattle.log.specs.Steps.{World, Step, Ran}
+use Rattle.undo_log.specs.declared.fault.LogFault.{LogFault}
+use Rattle.undo_log.specs.Steps.{World, Step, Ran}
 use Rattle.recovery.specs.Walk.{walk_of, found}
 use Rattle.recovery.specs.Check.{checked}
 use Rattle.recovery.specs.Undo.{undoing_core, undoing_from}

@@ -6,7 +6,7 @@ use Rattle.memory.specs.Meaning.{Line}
 use Rattle.layout.specs.declared.block.BlockEntry.{BlockEntry}
 use Rattle.layout.specs.declared.sizes.Sizes.{Sizes}
 use Rattle.layout.specs.Block.{entry_at}
-use Rattle.log.specs.declared.fault.LogFault.{LogFault}
+use Rattle.undo_log.specs.declared.fault.LogFault.{LogFault}
 use Rattle.recovery.specs.Walk.{Walk, stops, finds, walk_of, found}
 use Rattle.recovery.specs.Check.{tally, plus, and_then, checked}
 

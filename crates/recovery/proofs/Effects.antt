@@ -2,8 +2,8 @@
 use Rattle.std.proofs.Common.{◌≡◌, ℕ, true, List, [], ◌∷◌, ◌++◌, set, Ok, Err, Result, sym, refl, ap, ◌∙◌, subst, arith}
 use Rattle.memory.specs.Meaning.{Meaning, Line}
 use Rattle.layout.specs.declared.block.BlockEntry.{BlockEntry}
-use Rattle.log.specs.declared.fault.LogFault.{LogFault}
-use Rattle.log.specs.Steps.{World, Step, write, fence, enter, Does, Then, Ran}
+use Rattle.undo_log.specs.declared.fault.LogFault.{LogFault}
+use Rattle.undo_log.specs.Steps.{World, Step, write, fence, enter, Does, Then, Ran}
 use Rattle.recovery.proofs.Leads.{wrote, fenced}
 
 -- the lines after steps that complete

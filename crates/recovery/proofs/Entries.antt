@@ -6,10 +6,10 @@ use Rattle.layout.specs.declared.sizes.Sizes.{Sizes}
 use Rattle.layout.specs.Places.{entry_line}
 use Rattle.layout.specs.Sizes.{data_lines_of}
 use Rattle.header.specs.declared.Header.{Header}
-use Rattle.log.specs.declared.fault.Place.{Place}
-use Rattle.log.specs.declared.fault.Place.TheVariants.{Record}
-use Rattle.log.specs.declared.fault.LogFault.{LogFault}
-use Rattle.log.specs.Steps.{World, write, Does, Ran}
+use Rattle.undo_log.specs.declared.fault.Place.{Place}
+use Rattle.undo_log.specs.declared.fault.Place.TheVariants.{Record}
+use Rattle.undo_log.specs.declared.fault.LogFault.{LogFault}
+use Rattle.undo_log.specs.Steps.{World, write, Does, Ran}
 use Rattle.recovery.specs.Undo.{undoing}
 use Rattle.recovery.specs.Kept.{Kept, Undoable}
 use Rattle.recovery.proofs.Leads.{Leads, leads_more, leads_stop, leads_end, leads_same, wrote}

@@ -3,10 +3,10 @@ use Rattle.std.proofs.Common.{◌≡◌, ℕ, ◌<◌, ◌≤◌, true, ◌⊎�
 use Rattle.std.proofs.lemmas.Bool.{cases_lt}
 use Rattle.memory.specs.Meaning.{Meaning, Line, Writes, Wrote, Fences, Fenced}
 use Rattle.memory.specs.declared.fault.MemoryFault.{MemoryFault}
-use Rattle.log.specs.declared.fault.Place.{Place}
-use Rattle.log.specs.declared.fault.LogFault.{LogFault}
-use Rattle.log.specs.Steps.{World, Step, placed, Does, Ran}
-use Rattle.log.proofs.Runs.{ran_then, ran_stops}
+use Rattle.undo_log.specs.declared.fault.Place.{Place}
+use Rattle.undo_log.specs.declared.fault.LogFault.{LogFault}
+use Rattle.undo_log.specs.Steps.{World, Step, placed, Does, Ran}
+use Rattle.undo_log.proofs.Runs.{ran_then, ran_stops}
 
 -- what is left of the steps leads from v to where all lead from w
 abbrev pub Leads : List Step → World → List Step → World → Type 0

@@ -9,11 +9,11 @@ use Rattle.layout.specs.declared.sizes.Sizes.{Sizes}
 use Rattle.layout.specs.Block.{empty, entry_at, records_of}
 use Rattle.layout.specs.Sizes.{lines_needed}
 use Rattle.header.specs.declared.Header.{Header}
-use Rattle.log.specs.declared.fault.Place.{Place}
-use Rattle.log.specs.declared.fault.Place.TheVariants.{Record}
-use Rattle.log.specs.declared.fault.LogFault.{LogFault}
-use Rattle.log.specs.Closing.{noting, blank_notes}
-use Rattle.log.specs.Steps.{World, Step, fence, enter, Does, Ran}
+use Rattle.undo_log.specs.declared.fault.Place.{Place}
+use Rattle.undo_log.specs.declared.fault.Place.TheVariants.{Record}
+use Rattle.undo_log.specs.declared.fault.LogFault.{LogFault}
+use Rattle.undo_log.specs.Closing.{noting, blank_notes}
+use Rattle.undo_log.specs.Steps.{World, Step, fence, enter, Does, Ran}
 use Rattle.recovery.specs.Walk.{Found, Walk, stops, finds, adding, bucket_next, slot_next, header_at, walk, walk_of, found}
 use Rattle.recovery.specs.Check.{ready}
 use Rattle.recovery.specs.Undo.{undoing, undoing_all, undone_by, undoing_core}

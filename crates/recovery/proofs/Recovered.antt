@@ -3,10 +3,10 @@ use Rattle.std.proofs.Common.{◌≡◌, ℕ, true, false, ◌⊎◌, is_ok, Ok,
 use Rattle.std.proofs.lemmas.Bool.{cases_Bool}
 use Rattle.memory.specs.Meaning.{content_at}
 use Rattle.layout.specs.declared.sizes.Sizes.{Sizes}
-use Rattle.log.specs.declared.fault.LogFault.{LogFault}
-use Rattle.log.specs.declared.fault.LogFault.TheVariants.{NotReady}
-use Rattle.log.specs.Closing.{Notes, blank_notes}
-use Rattle.log.specs.Steps.{World, Ran}
+use Rattle.undo_log.specs.declared.fault.LogFault.{LogFault}
+use Rattle.undo_log.specs.declared.fault.LogFault.TheVariants.{NotReady}
+use Rattle.undo_log.specs.Closing.{Notes, blank_notes}
+use Rattle.undo_log.specs.Steps.{World, Ran}
 use Rattle.recovery.specs.Check.{ready, checked, Checks}
 use Rattle.recovery.specs.Undo.{undoing_from, counts, AfterCheck, Recovers}
 

@@ -7,8 +7,8 @@ use Rattle.layout.specs.Block.{records_of}
 use Rattle.layout.specs.Places.{header_line, entry_line, in_log}
 use Rattle.header.specs.declared.Header.{Header}
 use Rattle.header.specs.Header.{read_header}
-use Rattle.log.specs.declared.fault.Place.{Place}
-use Rattle.log.specs.declared.fault.Place.TheVariants.{Record}
+use Rattle.undo_log.specs.declared.fault.Place.{Place}
+use Rattle.undo_log.specs.declared.fault.Place.TheVariants.{Record}
 use Rattle.recovery.specs.Walk.{Found, Walk, stops, finds, fitting, header_at, bucket_next, slot_next, adding, turn, walk, walk_of}
 use Rattle.recovery.specs.Check.{checked}
 use Rattle.recovery.specs.Undo.{undoing, undoing_all, undone_by, undoing_core, undoing_from}

@@ -6,9 +6,9 @@ use Rattle.memory.specs.Meaning.{Line}
 use Rattle.layout.specs.declared.block.BlockEntry.{BlockEntry}
 use Rattle.layout.specs.declared.sizes.Sizes.{Sizes}
 use Rattle.layout.specs.Block.{records_of}
-use Rattle.log.specs.declared.fault.Place.{Place}
-use Rattle.log.specs.declared.fault.Place.TheVariants.{Record}
-use Rattle.log.specs.Steps.{World, Step, Ran}
+use Rattle.undo_log.specs.declared.fault.Place.{Place}
+use Rattle.undo_log.specs.declared.fault.Place.TheVariants.{Record}
+use Rattle.undo_log.specs.Steps.{World, Step, Ran}
 use Rattle.recovery.specs.Walk.{Found, Walk, stops, finds, walk, walk_of, records_in}
 use Rattle.recovery.specs.Undo.{undoing, undoing_all, undone_by, undoing_core, undoing_from}
 use Rattle.recovery.specs.Undone.{Logged, entries_from, entries_of, logged_from, or_else, if_at, oldest, content_or, Restored}

@@ -13,9 +13,9 @@ use Rattle.layout.specs.Sizes.{lines_needed}
 use Rattle.header.specs.declared.Header.{Header}
 use Rattle.header.specs.Header.{read_header}
 use Rattle.header.proofs.Good.{reads_nothing}
-use Rattle.log.specs.declared.fault.LogFault.{LogFault}
-use Rattle.log.specs.declared.fault.LogFault.TheVariants.{BadHeader}
-use Rattle.log.specs.Calls.{Bounded}
+use Rattle.undo_log.specs.declared.fault.LogFault.{LogFault}
+use Rattle.undo_log.specs.declared.fault.LogFault.TheVariants.{BadHeader}
+use Rattle.undo_log.specs.Calls.{Bounded}
 use Rattle.recovery.specs.Walk.{Found, Walk, stops, finds, fits, fitting, header_at, bucket_next, slot_next, adding, turn, walk, walk_of, entries_in}
 use Rattle.recovery.specs.Check.{tally, plus}
 

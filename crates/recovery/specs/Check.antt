@@ -5,9 +5,9 @@ use Rattle.layout.specs.declared.block.BlockEntry.{BlockEntry}
 use Rattle.layout.specs.declared.sizes.Sizes.{Sizes}
 use Rattle.layout.specs.Block.{entry_at, records_of, BlockRules}
 use Rattle.layout.specs.Sizes.{lines_needed}
-use Rattle.log.specs.declared.fault.LogFault.{LogFault}
-use Rattle.log.specs.declared.fault.LogFault.TheVariants.{NotReady, BadHeader}
-use Rattle.log.specs.Steps.{World}
+use Rattle.undo_log.specs.declared.fault.LogFault.{LogFault}
+use Rattle.undo_log.specs.declared.fault.LogFault.TheVariants.{NotReady, BadHeader}
+use Rattle.undo_log.specs.Steps.{World}
 use Rattle.recovery.specs.Walk.{Walk, stops, finds, walk_of, entries_in}
 
 -- the memory has power, and the lines of the log

@@ -5,7 +5,7 @@ use Rattle.layout.specs.declared.block.BlockEntry.{BlockEntry}
 use Rattle.layout.specs.declared.sizes.Sizes.{Sizes}
 use Rattle.layout.specs.Sizes.{data_lines_of, lines_needed}
 use Rattle.header.specs.declared.Header.{Header}
-use Rattle.log.specs.Steps.{World}
+use Rattle.undo_log.specs.Steps.{World}
 
 -- lines that are no data lines have the same content in both
 abbrev pub SameLog : Sizes → (ℕ → Line) → (ℕ → Line) → Type 0

@@ -6,12 +6,12 @@ use Rattle.layout.specs.declared.sizes.Sizes.{Sizes}
 use Rattle.layout.specs.Block.{empty, records_of}
 use Rattle.layout.specs.Places.{entry_line}
 use Rattle.header.specs.declared.Header.{Header}
-use Rattle.log.specs.declared.fault.Place.{Place}
-use Rattle.log.specs.declared.fault.Place.TheVariants.{Record}
-use Rattle.log.specs.declared.fault.LogFault.{LogFault}
-use Rattle.log.specs.declared.fault.LogFault.TheVariants.{NotReady}
-use Rattle.log.specs.Steps.{World, Step, write, fence, enter, Ran}
-use Rattle.log.specs.Closing.{Notes, blank_notes}
+use Rattle.undo_log.specs.declared.fault.Place.{Place}
+use Rattle.undo_log.specs.declared.fault.Place.TheVariants.{Record}
+use Rattle.undo_log.specs.declared.fault.LogFault.{LogFault}
+use Rattle.undo_log.specs.declared.fault.LogFault.TheVariants.{NotReady}
+use Rattle.undo_log.specs.Steps.{World, Step, write, fence, enter, Ran}
+use Rattle.undo_log.specs.Closing.{Notes, blank_notes}
 use Rattle.recovery.specs.Walk.{Found, Walk, stops, finds, walk_of}
 use Rattle.recovery.specs.Check.{ready, checked}
 

@@ -3,9 +3,9 @@ ghost use Rattle.std.specs.Prelude.{◌≡◌, ◌<◌, true, length, is_ok, OnO
 ghost use Rattle.memory.specs.Meaning.{content_at};
 ghost use Rattle.layout.specs.Block.{entry_at};
 ghost use Rattle.layout.specs.Sizes.{data_lines_of};
-ghost use Rattle.log.specs.Calls.{world, notes_of, Bounded};
-ghost use Rattle.log.specs.Closing.{blank_notes};
-ghost use Rattle.log.specs.Steps.{Does, write, Ran};
+ghost use Rattle.undo_log.specs.Calls.{world, notes_of, Bounded};
+ghost use Rattle.undo_log.specs.Closing.{blank_notes};
+ghost use Rattle.undo_log.specs.Steps.{Does, write, Ran};
 ghost use Rattle.recovery.specs.Check.{ready, checked};
 ghost use Rattle.recovery.specs.Kept.{Kept, Emptied, Undoable};
 ghost use Rattle.recovery.specs.Undo.{undoing, undoing_core, undoing_from, Recovers};
@@ -15,7 +15,7 @@ ghost use Rattle.recovery.specs.Walk.{walk_of, found};
 use crate::walk::{bucket_next, check, header_at, slot_next};
 use header::Header;
 use layout::{Sizes, entry_line};
-use log::{Log, LogFault, Place};
+use undo_log::{Log, LogFault, Place};
 use memory::Memory;
 
 // Writes the content of one line to another, which is a data line.

@@ -2,13 +2,13 @@
 ghost use Rattle.std.specs.Prelude.{◌≡◌, ◌*◌, ◌≤◌, true, length, IfOk};
 ghost use Rattle.memory.specs.Meaning.{content_at};
 ghost use Rattle.layout.specs.Block.{entry_at};
-ghost use Rattle.log.specs.Calls.{world, notes_of, Bounded};
+ghost use Rattle.undo_log.specs.Calls.{world, notes_of, Bounded};
 ghost use Rattle.recovery.specs.Check.{ready, tally, checked, Checks, Ends};
 ghost use Rattle.recovery.specs.Walk.{fits, header_at, bucket_next, slot_next, walk_of};
 
 use header::{Header, decode};
 use layout::{BlockEntry, Sizes, has_bucket, header_line};
-use log::{Log, LogFault};
+use undo_log::{Log, LogFault};
 use memory::Memory;
 
 fn header_fits(sizes: &Sizes, core: u8, held: &BlockEntry, number: u32, header: &Header) -> bool

@@ -9,12 +9,12 @@ use Rattle.layout.specs.declared.sizes.Sizes.{Sizes}
 use Rattle.layout.specs.Block.{entry_at, has}
 use Rattle.layout.specs.Places.{in_log, entry_line}
 use Rattle.layout.specs.Sizes.{data_lines_of}
-use Rattle.log.specs.declared.fault.LogFault.{LogFault}
-use Rattle.log.specs.Append.{appending, Appends}
-use Rattle.log.specs.Closing.{Notes, before_at, record_place, closing}
-use Rattle.log.specs.Open.{open_fits, opening, first_of, next_record, or_next, log_target, with_line}
-use Rattle.log.specs.Steps.{World, Step, Ran}
-use Rattle.log.proofs.Targets.{fits_parts}
+use Rattle.undo_log.specs.declared.fault.LogFault.{LogFault}
+use Rattle.undo_log.specs.Append.{appending, Appends}
+use Rattle.undo_log.specs.Closing.{Notes, before_at, record_place, closing}
+use Rattle.undo_log.specs.Open.{open_fits, opening, first_of, next_record, or_next, log_target, with_line}
+use Rattle.undo_log.specs.Steps.{World, Step, Ran}
+use Rattle.undo_log.proofs.Targets.{fits_parts}
 use Rattle.recovery.specs.Undone.{entries_from, entries_of}
 use Rattle.recovery.specs.Walk.{Found}
 use Rattle.survival.specs.Held.{Holds, Kept}

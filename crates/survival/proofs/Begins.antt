@@ -9,11 +9,11 @@ use Rattle.layout.specs.declared.sizes.Sizes.{Sizes}
 use Rattle.layout.specs.Block.{empty, entry_at, all_sound, block_sound}
 use Rattle.layout.specs.Sizes.{sizes_fit}
 use Rattle.layout.proofs.Blocks.{block_rules}
-use Rattle.log.specs.declared.fault.LogFault.{LogFault}
-use Rattle.log.specs.Calls.{Starts}
-use Rattle.log.specs.Closing.{Notes, open_at, blank_notes}
-use Rattle.log.specs.Steps.{World}
-use Rattle.log.proofs.Starting.{fit_bounds}
+use Rattle.undo_log.specs.declared.fault.LogFault.{LogFault}
+use Rattle.undo_log.specs.Calls.{Starts}
+use Rattle.undo_log.specs.Closing.{Notes, open_at, blank_notes}
+use Rattle.undo_log.specs.Steps.{World}
+use Rattle.undo_log.proofs.Starting.{fit_bounds}
 use Rattle.recovery.specs.Walk.{finds, walk, walk_of}
 use Rattle.survival.specs.Calls.{Begins, OrderlyStart}
 use Rattle.survival.specs.Held.{Holds}

@@ -7,7 +7,7 @@ use Rattle.layout.specs.declared.open.OpenRecord.{OpenRecord}
 use Rattle.layout.specs.declared.sizes.Sizes.{Sizes}
 use Rattle.layout.specs.Block.{empty, entry_at, has, buckets_in, counting, Filled, BlockRules}
 use Rattle.layout.proofs.Vectors.{has_none, has_new, has_old, has_cases}
-use Rattle.log.specs.Closing.{bucket_before}
+use Rattle.undo_log.specs.Closing.{bucket_before}
 use Rattle.survival.specs.Orderly.{Chained}
 use Rattle.survival.specs.Proper.{Next, Proper}
 use Rattle.survival.proofs.Added.{Stands, none, full, here, stands, one_more, records_none}

@@ -12,12 +12,12 @@ use Rattle.layout.specs.Block.{empty, entry_at, has, counting}
 use Rattle.layout.specs.Places.{header_line, entry_line}
 use Rattle.layout.proofs.Vectors.{has_new, has_old}
 use Rattle.header.specs.Header.{read_header, written}
-use Rattle.log.specs.declared.fault.LogFault.{LogFault}
-use Rattle.log.specs.Calls.{Bounded}
-use Rattle.log.specs.Closing.{Notes, open_at, before_at, header_of, closing, Closes}
-use Rattle.log.specs.Open.{open_fits}
-use Rattle.log.specs.Steps.{World, Ran}
-use Rattle.log.proofs.Targets.{fits_parts}
+use Rattle.undo_log.specs.declared.fault.LogFault.{LogFault}
+use Rattle.undo_log.specs.Calls.{Bounded}
+use Rattle.undo_log.specs.Closing.{Notes, open_at, before_at, header_of, closing, Closes}
+use Rattle.undo_log.specs.Open.{open_fits}
+use Rattle.undo_log.specs.Steps.{World, Ran}
+use Rattle.undo_log.proofs.Targets.{fits_parts}
 use Rattle.recovery.specs.Undone.{entries_of}
 use Rattle.recovery.specs.Walk.{Found, finds, walk_of}
 use Rattle.survival.specs.Held.{Placed, DurableRecord, Holds, Kept}

@@ -10,8 +10,8 @@ use Rattle.layout.proofs.Vectors.{has_old, most_in}
 use Rattle.header.specs.declared.Header.{Header}
 use Rattle.header.specs.Header.{read_header, written, Sensible}
 use Rattle.header.proofs.Back.{reads_back, small_lines}
-use Rattle.log.specs.Calls.{Bounded}
-use Rattle.log.specs.Closing.{bucket_before, header_of}
+use Rattle.undo_log.specs.Calls.{Bounded}
+use Rattle.undo_log.specs.Closing.{bucket_before, header_of}
 use Rattle.survival.specs.Proper.{Proper}
 use Rattle.survival.proofs.Added.{Stands, none, full, here, stands, linked, records_none}
 

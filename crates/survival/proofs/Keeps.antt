@@ -9,7 +9,7 @@ use Rattle.layout.specs.declared.sizes.Sizes.{Sizes}
 use Rattle.layout.specs.Block.{entry_at, has}
 use Rattle.layout.specs.Places.{entry_line}
 use Rattle.layout.proofs.Apart.{lines_apart}
-use Rattle.log.specs.Steps.{World}
+use Rattle.undo_log.specs.Steps.{World}
 use Rattle.recovery.specs.Walk.{Found, walk_of}
 use Rattle.survival.specs.Held.{Placed, DurableRecord, Holds, Kept}
 use Rattle.survival.specs.Proper.{Next}

@@ -10,11 +10,11 @@ use Rattle.layout.specs.Block.{empty, entry_at, has, Filled}
 use Rattle.layout.specs.Places.{entry_line}
 use Rattle.layout.specs.Sizes.{data_lines_of}
 use Rattle.layout.proofs.Vectors.{has_none}
-use Rattle.log.specs.declared.fault.Place.{Place}
-use Rattle.log.specs.declared.fault.LogFault.{LogFault}
-use Rattle.log.specs.Calls.{WritesData}
-use Rattle.log.specs.Closing.{Notes, open_at, before_at, noting}
-use Rattle.log.specs.Steps.{World, fence, enter, Does}
+use Rattle.undo_log.specs.declared.fault.Place.{Place}
+use Rattle.undo_log.specs.declared.fault.LogFault.{LogFault}
+use Rattle.undo_log.specs.Calls.{WritesData}
+use Rattle.undo_log.specs.Closing.{Notes, open_at, before_at, noting}
+use Rattle.undo_log.specs.Steps.{World, fence, enter, Does}
 use Rattle.recovery.specs.Walk.{Found}
 use Rattle.survival.specs.Calls.{AllOrderly, OrderlyEmpty}
 use Rattle.survival.specs.Held.{DurableRecord, Holds}

@@ -4,11 +4,11 @@ use Rattle.std.proofs.lemmas.List.{get_or-take, get_or_past, length-take-le}
 use Rattle.std.proofs.lemmas.Bool.{cases_lt}
 use Rattle.memory.specs.Meaning.{Meaning}
 use Rattle.layout.specs.declared.open.OpenRecord.{OpenRecord}
-use Rattle.log.specs.declared.state.Log.{Log}
-use Rattle.log.specs.Calls.{Bounded, world, notes_of}
-use Rattle.log.specs.Closing.{Notes, open_at}
-use Rattle.log.specs.Open.{open_fits}
-use Rattle.log.specs.Steps.{World}
+use Rattle.undo_log.specs.declared.state.Log.{Log}
+use Rattle.undo_log.specs.Calls.{Bounded, world, notes_of}
+use Rattle.undo_log.specs.Closing.{Notes, open_at}
+use Rattle.undo_log.specs.Open.{open_fits}
+use Rattle.undo_log.specs.Steps.{World}
 
 -- its sizes are bounded, block and notes have a place for each core, and open records have room
 pub record Sized (n : Notes) (w : World) : Type 0 where

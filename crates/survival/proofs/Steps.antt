@@ -4,10 +4,10 @@ use Rattle.std.proofs.lemmas.Bool.{cases_lt, cases_eq, cases_Bool}
 use Rattle.memory.specs.declared.fault.MemoryFault.{MemoryFault}
 use Rattle.memory.specs.Meaning.{Line, Wrote, Fenced}
 use Rattle.layout.specs.declared.block.BlockEntry.{BlockEntry}
-use Rattle.log.specs.declared.fault.LogFault.{LogFault}
-use Rattle.log.specs.declared.fault.LogFault.TheVariants.{Memory}
-use Rattle.log.specs.declared.fault.Place.{Place}
-use Rattle.log.specs.Steps.{World, Step, write, fence, enter, placed, Then, Ran}
+use Rattle.undo_log.specs.declared.fault.LogFault.{LogFault}
+use Rattle.undo_log.specs.declared.fault.LogFault.TheVariants.{Memory}
+use Rattle.undo_log.specs.declared.fault.Place.{Place}
+use Rattle.undo_log.specs.Steps.{World, Step, write, fence, enter, placed, Then, Ran}
 use Rattle.survival.proofs.Spared.{Spared, Written, then_spared, writes_spared, fences_spared, fenced_written}
 
 -- the call ended with a fault, the block is as it was, and only line l may have suffered

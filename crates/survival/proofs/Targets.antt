@@ -9,8 +9,8 @@ use Rattle.layout.specs.Block.{empty, entry_at, has, Filled}
 use Rattle.layout.specs.Places.{in_log}
 use Rattle.buckets.specs.Buckets.{free, lowest_free, Free}
 use Rattle.buckets.proofs.Searches.{lowest_free_lem}
-use Rattle.log.specs.Closing.{Notes}
-use Rattle.log.specs.Open.{opening, first_of, next_record, or_next, log_target}
+use Rattle.undo_log.specs.Closing.{Notes}
+use Rattle.undo_log.specs.Open.{opening, first_of, next_record, or_next, log_target}
 use Rattle.survival.specs.Orderly.{Own, Tidy}
 
 blank : (i : ℕ) → ◌≡◌ {A = ℕ} (get_or (replicate 7 0) i 0) 0

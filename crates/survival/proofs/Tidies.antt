@@ -7,8 +7,8 @@ use Rattle.layout.specs.declared.open.OpenRecord.{OpenRecord}
 use Rattle.layout.specs.declared.sizes.Sizes.{Sizes}
 use Rattle.layout.specs.Block.{empty, entry_at, has}
 use Rattle.layout.specs.Sizes.{data_lines_of}
-use Rattle.log.specs.Closing.{Notes, open_at, before_at, with_open, noting, bucket_before}
-use Rattle.log.specs.Open.{with_line}
+use Rattle.undo_log.specs.Closing.{Notes, open_at, before_at, with_open, noting, bucket_before}
+use Rattle.undo_log.specs.Open.{with_line}
 use Rattle.survival.specs.Orderly.{Chained, Own, Tidy}
 use Rattle.survival.specs.Proper.{Proper}
 use Rattle.survival.proofs.Appends.{proper_more}

@@ -6,11 +6,11 @@ use Rattle.layout.specs.declared.open.OpenRecord.{OpenRecord}
 use Rattle.layout.specs.declared.sizes.Sizes.{Sizes}
 use Rattle.layout.specs.Block.{empty, entry_at}
 use Rattle.layout.specs.Sizes.{sizes_fit}
-use Rattle.log.specs.declared.fault.LogFault.{LogFault}
-use Rattle.log.specs.declared.fault.LogFault.TheVariants.{UnfitSizes}
-use Rattle.log.specs.Closing.{Notes, open_at, before_at, blank_notes}
-use Rattle.log.specs.Open.{log_target}
-use Rattle.log.specs.Steps.{World}
+use Rattle.undo_log.specs.declared.fault.LogFault.{LogFault}
+use Rattle.undo_log.specs.declared.fault.LogFault.TheVariants.{UnfitSizes}
+use Rattle.undo_log.specs.Closing.{Notes, open_at, before_at, blank_notes}
+use Rattle.undo_log.specs.Open.{log_target}
+use Rattle.undo_log.specs.Steps.{World}
 use Rattle.recovery.specs.Walk.{Found}
 use Rattle.survival.specs.Orderly.{Tidy, Orderly}
 use Rattle.survival.specs.Proper.{found_of}

@@ -6,7 +6,7 @@ use Rattle.layout.specs.declared.block.BlockEntry.{BlockEntry}
 use Rattle.layout.specs.declared.sizes.Sizes.{Sizes}
 use Rattle.layout.specs.Block.{entry_at, has}
 use Rattle.layout.specs.Places.{entry_line}
-use Rattle.log.specs.Steps.{World}
+use Rattle.undo_log.specs.Steps.{World}
 use Rattle.recovery.specs.Undone.{entries_of}
 use Rattle.recovery.specs.Walk.{Found, finds, walk_of}
 

@@ -4,8 +4,8 @@ use Rattle.layout.specs.declared.block.BlockEntry.{BlockEntry}
 use Rattle.layout.specs.declared.open.OpenRecord.{OpenRecord}
 use Rattle.layout.specs.declared.sizes.Sizes.{Sizes}
 use Rattle.layout.specs.Block.{entry_at, has, records_of, BlockRules}
-use Rattle.log.specs.Closing.{Notes, open_at, before_at}
-use Rattle.log.specs.Steps.{World}
+use Rattle.undo_log.specs.Closing.{Notes, open_at, before_at}
+use Rattle.undo_log.specs.Steps.{World}
 use Rattle.recovery.specs.Walk.{Found}
 use Rattle.survival.specs.Held.{Holds}
 use Rattle.survival.specs.Proper.{Proper}

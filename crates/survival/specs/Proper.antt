@@ -5,7 +5,7 @@ use Rattle.layout.specs.declared.open.OpenRecord.{OpenRecord}
 use Rattle.layout.specs.declared.sizes.Sizes.{Sizes}
 use Rattle.layout.specs.Block.{empty, has, records_of, Filled}
 use Rattle.layout.specs.Sizes.{data_lines_of}
-use Rattle.log.specs.Closing.{header_of}
+use Rattle.undo_log.specs.Closing.{header_of}
 use Rattle.recovery.specs.Walk.{Found}
 
 -- Record r of bucket b is the next of an entry: the next of its current bucket or, if that is full or missing, record 0

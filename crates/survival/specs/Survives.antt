@@ -4,11 +4,11 @@ use Rattle.std.specs.Prelude.{◌≡◌, ℕ, ◌<◌, List, ◌∷◌, ◌++◌
 use Rattle.memory.specs.Meaning.{Line, Cuts, content_at}
 use Rattle.layout.specs.declared.open.OpenRecord.{OpenRecord}
 use Rattle.layout.specs.Block.{entry_at}
-use Rattle.log.specs.declared.fault.LogFault.{LogFault}
-use Rattle.log.specs.Append.{Appends}
-use Rattle.log.specs.Closing.{Notes, open_at, before_at, blank_notes, Closes}
-use Rattle.log.specs.Open.{log_target, with_line}
-use Rattle.log.specs.Steps.{World}
+use Rattle.undo_log.specs.declared.fault.LogFault.{LogFault}
+use Rattle.undo_log.specs.Append.{Appends}
+use Rattle.undo_log.specs.Closing.{Notes, open_at, before_at, blank_notes, Closes}
+use Rattle.undo_log.specs.Open.{log_target, with_line}
+use Rattle.undo_log.specs.Steps.{World}
 use Rattle.recovery.specs.Undone.{entries_from, entries_of}
 use Rattle.recovery.specs.Walk.{Found}
 use Rattle.survival.specs.Held.{Holds, Kept}

@@ -2,15 +2,15 @@
 ghost use Rattle.std.specs.Prelude.{◌≡◌, None, Ok};
 ghost use Rattle.memory.specs.Meaning.{powered_up};
 ghost use Rattle.layout.specs.Block.{empty};
-ghost use Rattle.log.specs.Append.{Appends};
-ghost use Rattle.log.specs.Calls.{world, notes_of, WritesData};
-ghost use Rattle.log.specs.Closing.{noting, Closes};
-ghost use Rattle.log.specs.Steps.{Does, fence, enter};
+ghost use Rattle.undo_log.specs.Append.{Appends};
+ghost use Rattle.undo_log.specs.Calls.{world, notes_of, WritesData};
+ghost use Rattle.undo_log.specs.Closing.{noting, Closes};
+ghost use Rattle.undo_log.specs.Steps.{Does, fence, enter};
 ghost use Rattle.survival.specs.Calls.{Begins, OrderlyStart, OrderlyAppend, OrderlyClose, AllOrderly, OrderlyEmpty};
 ghost use Rattle.survival.specs.Survives.{SurvivesAppend, SurvivesClose};
 
 use layout::{BlockEntry, Sizes};
-use log::{Log, LogFault, Place};
+use undo_log::{Log, LogFault, Place};
 use memory::Memory;
 
 // Starts a log with an empty block; the memory is cut.

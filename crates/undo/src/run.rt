@@ -1,6 +1,6 @@
 // Runs the story with power for so many operations of the closing, and then recovers.
 use crate::story::{OPERATIONS, SIZES, prepare, settle};
-use log::{Log, LogFault};
+use undo_log::{Log, LogFault};
 use memory::Memory;
 use queued::Queued;
 use recovery::{check, recover};

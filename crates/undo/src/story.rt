@@ -1,6 +1,6 @@
 // What happens before the closing, in ten operations.
 use layout::Sizes;
-use log::{Log, LogFault, Place};
+use undo_log::{Log, LogFault, Place};
 use memory::Memory;
 use survival::{close_record, fence, log_line, power_up, write_data};
 

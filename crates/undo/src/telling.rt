@@ -1,6 +1,6 @@
 // Prints what was found and undone.
 use crate::run::{Kind, Outcome};
-use log::LogFault;
+use undo_log::LogFault;
 use memory::MemoryFault;
 use std::io;
 

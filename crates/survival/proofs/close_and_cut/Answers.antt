@@ -1,4 +1,4 @@
-use Rattle.log.specs.Calls.{world, notes_of}
+use Rattle.undo_log.specs.Calls.{world, notes_of}
 use Rattle.survival.specs.Survives.{ClosesAndCuts}
 use Rattle.survival.proofs.Closes.{survives_close}
 use Rattle.survival.proofs.Sized.{log_sized}

@@ -1,9 +1,9 @@
 use Rattle.std.proofs.Common.{length, Ok, Err, sym, ap, ◌∙◌}
 use Rattle.std.proofs.lemmas.Result.{err_from_is_err_and}
 use Rattle.memory.specs.Meaning.{content_at}
-use Rattle.log.specs.Calls.{world, notes_of}
-use Rattle.log.specs.Closing.{blank_notes}
-use Rattle.log.specs.Steps.{World}
+use Rattle.undo_log.specs.Calls.{world, notes_of}
+use Rattle.undo_log.specs.Closing.{blank_notes}
+use Rattle.undo_log.specs.Steps.{World}
 use Rattle.recovery.proofs.Records.{ready_on}
 use Rattle.recovery.proofs.Recovered.{passed_ready, recovers_not, recovers_by, begins_ready, begins_passed, begins_same}
 use Rattle.recovery.proofs.Undone.{restores}

@@ -3,9 +3,9 @@ use Rattle.std.proofs.lemmas.Result.{err_from_is_err_and}
 use Rattle.memory.specs.Meaning.{content_at}
 use Rattle.layout.specs.declared.block.BlockEntry.{BlockEntry}
 use Rattle.layout.specs.Sizes.{lines_needed}
-use Rattle.log.specs.Calls.{world}
-use Rattle.log.specs.Closing.{Notes, noting}
-use Rattle.log.specs.Steps.{Ran}
+use Rattle.undo_log.specs.Calls.{world}
+use Rattle.undo_log.specs.Closing.{Notes, noting}
+use Rattle.undo_log.specs.Steps.{Ran}
 use Rattle.recovery.specs.Undo.{undoing_core}
 use Rattle.recovery.specs.Walk.{found, walk_of}
 use Rattle.recovery.proofs.Entries.{kept_all, kept_then}

@@ -1,7 +1,7 @@
 use Rattle.std.proofs.Common.{◌≡◌, true}
 use Rattle.memory.specs.Meaning.{content_at}
-use Rattle.log.specs.Calls.{world, notes_of}
-use Rattle.log.specs.Closing.{blank_notes}
+use Rattle.undo_log.specs.Calls.{world, notes_of}
+use Rattle.undo_log.specs.Closing.{blank_notes}
 use Rattle.recovery.specs.Kept.{Kept}
 use Rattle.recovery.specs.Undo.{undoing_core}
 use Rattle.recovery.specs.Walk.{walk, found}

@@ -1,7 +1,7 @@
 use Rattle.std.proofs.Common.{◌<◌, length, arith}
 use Rattle.std.proofs.lemmas.Result.{err_from_is_err_and}
 use Rattle.std.proofs.lemmas.Bool.{and_from, le-leb}
-use Rattle.log.specs.Calls.{world}
+use Rattle.undo_log.specs.Calls.{world}
 use Rattle.recovery.proofs.AllCores.{sees_all, core_found, core_more, core_stop, cores_done, sees_more}
 use Rattle.recovery.proofs.Leads.{leads_none}
 use Rattle.recovery.proofs.Records.{ready_on, ready_lines}

@@ -1,6 +1,6 @@
 use Rattle.std.proofs.Common.{◌≡◌}
-use Rattle.log.specs.Calls.{world, notes_of}
-use Rattle.log.specs.Closing.{blank_notes}
+use Rattle.undo_log.specs.Calls.{world, notes_of}
+use Rattle.undo_log.specs.Closing.{blank_notes}
 use Rattle.recovery.proofs.AllCores.{Sees, CoresLeft}
 use Rattle.recovery.proofs.undo.undo_cores.Given as goal
 

@@ -1,6 +1,6 @@
 use Rattle.std.proofs.Common.{refl, ◌∙◌, arith}
 use Rattle.std.proofs.lemmas.Result.{err_from_is_err_and}
-use Rattle.log.specs.Calls.{world}
+use Rattle.undo_log.specs.Calls.{world}
 use Rattle.recovery.proofs.Entries.{entry_kept, entry_more, entry_stop, entry_end}
 use Rattle.recovery.proofs.Walks.{lines_few}
 use Rattle.recovery.proofs.undo.undo_record.Goals as goal

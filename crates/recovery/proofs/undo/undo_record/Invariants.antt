@@ -1,5 +1,5 @@
 use Rattle.std.proofs.Common.{◌≡◌}
-use Rattle.log.specs.Calls.{world, notes_of}
+use Rattle.undo_log.specs.Calls.{world, notes_of}
 use Rattle.recovery.specs.Kept.{Kept}
 use Rattle.recovery.proofs.Entries.{EntriesLeft}
 use Rattle.recovery.proofs.undo.undo_record.Given as goal

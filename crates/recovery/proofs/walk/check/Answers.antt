@@ -1,4 +1,4 @@
-use Rattle.log.specs.Calls.{world}
+use Rattle.undo_log.specs.Calls.{world}
 use Rattle.recovery.proofs.Ends.{walks_end}
 use Rattle.recovery.proofs.Recovered.{checks_unready, checks_ready}
 use Rattle.recovery.proofs.walk.check.Goals as goal

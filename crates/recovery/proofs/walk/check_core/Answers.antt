@@ -1,7 +1,7 @@
 use Rattle.std.proofs.Common.{ap, ◌∙◌, arith, rules}
 use Rattle.memory.specs.Meaning.{content_at}
 use Rattle.layout.specs.declared.block.BlockEntry.{BlockEntry}
-use Rattle.log.specs.Calls.{world}
+use Rattle.undo_log.specs.Calls.{world}
 use Rattle.recovery.specs.Check.{tally}
 use Rattle.recovery.specs.Walk.{walk_of}
 use Rattle.recovery.proofs.Walks.{core_starts, core_more, core_stops, core_ends}

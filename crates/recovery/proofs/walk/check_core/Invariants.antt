@@ -1,6 +1,6 @@
 use Rattle.std.proofs.Common.{◌≡◌, ◌-◌, ◌*◌, ◌≤◌}
 use Rattle.memory.specs.Meaning.{content_at}
-use Rattle.log.specs.Calls.{world}
+use Rattle.undo_log.specs.Calls.{world}
 use Rattle.recovery.specs.Check.{plus, tally}
 use Rattle.recovery.specs.Walk.{walk, walk_of}
 use Rattle.recovery.proofs.walk.check_core.Given as goal

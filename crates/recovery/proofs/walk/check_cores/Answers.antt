@@ -1,7 +1,7 @@
 use Rattle.std.proofs.Common.{arith}
 use Rattle.std.proofs.lemmas.Result.{err_from_is_err_and}
 use Rattle.memory.specs.Meaning.{content_at}
-use Rattle.log.specs.Calls.{world}
+use Rattle.undo_log.specs.Calls.{world}
 use Rattle.recovery.proofs.Cores.{cores_more, cores_stop, cores_end}
 use Rattle.recovery.proofs.walk.check_cores.Goals as goal
 

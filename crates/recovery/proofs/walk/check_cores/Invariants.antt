@@ -1,6 +1,6 @@
 use Rattle.std.proofs.Common.{◌≡◌, ◌*◌, ◌≤◌, drop}
 use Rattle.memory.specs.Meaning.{content_at}
-use Rattle.log.specs.Calls.{world}
+use Rattle.undo_log.specs.Calls.{world}
 use Rattle.recovery.specs.Check.{plus, checked}
 use Rattle.recovery.proofs.walk.check_cores.Given as goal
 

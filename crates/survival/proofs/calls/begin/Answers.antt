@@ -1,5 +1,5 @@
 use Rattle.std.proofs.Common.{take, replicate}
-use Rattle.log.specs.Calls.{world, notes_of}
+use Rattle.undo_log.specs.Calls.{world, notes_of}
 use Rattle.survival.specs.Calls.{Begins}
 use Rattle.survival.proofs.Begins.{first_empty, begins, orderly_start}
 use Rattle.survival.proofs.calls.begin.Goals as goal

@@ -1,4 +1,4 @@
-use Rattle.log.specs.Calls.{world, notes_of}
+use Rattle.undo_log.specs.Calls.{world, notes_of}
 use Rattle.survival.proofs.Others.{orderly_fence}
 use Rattle.survival.proofs.calls.fence.Goals as goal
 

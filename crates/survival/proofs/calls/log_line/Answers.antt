@@ -1,5 +1,5 @@
 use Rattle.std.proofs.Common.{refl}
-use Rattle.log.specs.Calls.{world, notes_of}
+use Rattle.undo_log.specs.Calls.{world, notes_of}
 use Rattle.survival.proofs.Appends.{append_found}
 use Rattle.survival.proofs.Orders.{nothing_after, orderly_append}
 use Rattle.survival.proofs.Sized.{log_sized}

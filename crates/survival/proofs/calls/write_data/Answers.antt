@@ -1,4 +1,4 @@
-use Rattle.log.specs.Calls.{world, notes_of}
+use Rattle.undo_log.specs.Calls.{world, notes_of}
 use Rattle.survival.proofs.Others.{orderly_data}
 use Rattle.survival.proofs.calls.write_data.Goals as goal
 
