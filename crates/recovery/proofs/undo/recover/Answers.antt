@@ -9,21 +9,21 @@ use Rattle.recovery.proofs.Recovered.{passed_ready, recovers_not, recovers_by, b
 use Rattle.recovery.proofs.Undone.{restores}
 use Rattle.recovery.proofs.undo.recover.Goals as goal
 
-pub returns-in-err-undone : goal.returns-in-err-undone
-returns-in-err-undone g c =
+pub returns-in_err-undone : goal.returns-in_err-undone
+returns-in_err-undone g c =
     let w = world g.M.Memory.meaning c.args.log.now in
-    let x = err_from_is_err_and c.from-residual.result c.from-residual.ensures.1 in
-    rw (x.1, x.2) (record { recovers = recovers_not (notes_of c.args.log.now) w _ c.in-err-undone.ensures.checks; restored = tt })
+    let x = err_from_is_err_and c.from_residual.result c.from_residual.ensures.1 in
+    rw (x.1, x.2) (record { recovers = recovers_not (notes_of c.args.log.now) w _ c.in_err-undone.ensures.checks; restored = tt })
 
-pub undo-cores-requires : goal.undo-cores-requires
-undo-cores-requires g c =
+pub undo_cores-requires : goal.undo_cores-requires
+undo_cores-requires g c =
     let w = world g.M.Memory.meaning c.args.log.now in
     let v = world g.M.Memory.meaning c.forget.new.self in
     let s = c.sizes-sizes.result in
     let t = c.args.log.now.sizes in
     let e = c.forget.ensures.state in
     let i = c.sizes-sizes.ensures.is in
-    let p = c.in-ok-undone.ensures.checks in
+    let p = c.in_ok-undone.ensures.checks in
     record {
       blank = c.forget.ensures.notes ∙ ap blank_notes (sym i);
       bounded = c.sizes-sizes.ensures.bounded;
@@ -32,19 +32,19 @@ undo-cores-requires g c =
       passed = begins_passed s t w v _ e i p;
     }
 
-pub returns-in-err-undo-cores : goal.returns-in-err-undo-cores
-returns-in-err-undo-cores g c =
+pub returns-in_err-undo_cores : goal.returns-in_err-undo_cores
+returns-in_err-undo_cores g c =
     let w = world g.M.Memory.meaning c.args.log.now in
     let v = world g.M.Memory.meaning c.forget.new.self in
-    let u = world g.M.Memory.meaning c.undo-cores.new.log in
+    let u = world g.M.Memory.meaning c.undo_cores.new.log in
     let s = c.sizes-sizes.result in
     let t = c.args.log.now.sizes in
     let i = c.sizes-sizes.ensures.is in
-    let p = c.in-ok-undone.ensures.checks in
-    let r = begins_same s t w v _ c.forget.ensures.state i p (Err c.in-err-undo-cores.field-0.0) u c.in-err-undo-cores.ensures.ran in
-    let x = err_from_is_err_and c.from-residual-in-err-undo-cores.result c.from-residual-in-err-undo-cores.ensures.1 in
+    let p = c.in_ok-undone.ensures.checks in
+    let r = begins_same s t w v _ c.forget.ensures.state i p (Err c.in_err-undo_cores.field-0.0) u c.in_err-undo_cores.ensures.ran in
+    let x = err_from_is_err_and c.from_residual-in_err-undo_cores.result c.from_residual-in_err-undo_cores.ensures.1 in
     rw (x.1, x.2) (record {
-      recovers = recovers_by (notes_of c.args.log.now) w _ _ _ u p (c.in-err-undo-cores.ensures.rest ∙ ap blank_notes i) r;
+      recovers = recovers_by (notes_of c.args.log.now) w _ _ _ u p (c.in_err-undo_cores.ensures.rest ∙ ap blank_notes i) r;
       restored = tt;
     })
 
@@ -52,13 +52,13 @@ pub returns : goal.returns
 returns g c =
     let w = world g.M.Memory.meaning c.args.log.now in
     let v = world g.M.Memory.meaning c.forget.new.self in
-    let u = world g.M.Memory.meaning c.undo-cores.new.log in
+    let u = world g.M.Memory.meaning c.undo_cores.new.log in
     let s = c.sizes-sizes.result in
     let t = c.args.log.now.sizes in
     let i = c.sizes-sizes.ensures.is in
-    let p = c.in-ok-undone.ensures.checks in
-    let r = begins_same s t w v _ c.forget.ensures.state i p (Ok tt) u c.in-ok-undo-cores.ensures.ran in
+    let p = c.in_ok-undone.ensures.checks in
+    let r = begins_same s t w v _ c.forget.ensures.state i p (Ok tt) u c.in_ok-undo_cores.ensures.ran in
     record {
-      recovers = recovers_by (notes_of c.args.log.now) w _ (Ok tt) _ u p (c.in-ok-undo-cores.ensures.rest ∙ ap blank_notes i) r;
+      recovers = recovers_by (notes_of c.args.log.now) w _ (Ok tt) _ u p (c.in_ok-undo_cores.ensures.rest ∙ ap blank_notes i) r;
       restored = restores t (content_at w.memory) w.block w u (ready_on t w.memory (passed_ready t w _ p)) r;
     }

@@ -12,8 +12,8 @@ loop-core-init g c =
     let w = world g.M.Memory.meaning c.args.log.now in
     (sees_all c.args.sizes.now w (ready_on c.args.sizes.now w.memory c.requires.able) c.requires.passed, c.requires.blank, leads_none _ w)
 
-pub undo-core-requires : goal.undo-core-requires
-undo-core-requires g c =
+pub undo_core-requires : goal.undo_core-requires
+undo_core-requires g c =
     let w = world g.M.Memory.meaning c.args.log.now in
     let v = world g.M.Memory.meaning c.loop-core.log in
     let s = c.args.sizes.now in
@@ -25,27 +25,27 @@ undo-core-requires g c =
       passed = core_found s w v c.loop-core.core k c.loop-core.invariant.0;
     }
 
-pub returns-in-err-undo-core : goal.returns-in-err-undo-core
-returns-in-err-undo-core g c =
+pub returns-in_err-undo_core : goal.returns-in_err-undo_core
+returns-in_err-undo_core g c =
     let w = world g.M.Memory.meaning c.args.log.now in
     let v = world g.M.Memory.meaning c.loop-core.log in
-    let u = world g.M.Memory.meaning c.undo-core.new.log in
+    let u = world g.M.Memory.meaning c.undo_core.new.log in
     let k : c.loop-core.core < length w.block = omega (arith, c.loop-core-test.true, c.requires.cores) in
-    let x = err_from_is_err_and c.from-residual.result c.from-residual.ensures.1 in
+    let x = err_from_is_err_and c.from_residual.result c.from_residual.ensures.1 in
     rw (x.1, x.2) (record {
-      ran = core_stop c.args.sizes.now w v c.loop-core.core k c.loop-core.invariant.0 u _ c.in-err-undo-core.ensures.ran c.loop-core.invariant.2;
-      rest = c.in-err-undo-core.ensures.rest;
+      ran = core_stop c.args.sizes.now w v c.loop-core.core k c.loop-core.invariant.0 u _ c.in_err-undo_core.ensures.ran c.loop-core.invariant.2;
+      rest = c.in_err-undo_core.ensures.rest;
     })
 
 pub loop-core-preserved : goal.loop-core-preserved
 loop-core-preserved g c =
     let w = world g.M.Memory.meaning c.args.log.now in
     let v = world g.M.Memory.meaning c.loop-core.log in
-    let u = world g.M.Memory.meaning c.undo-core.new.log in
+    let u = world g.M.Memory.meaning c.undo_core.new.log in
     let k : c.loop-core.core < length w.block = omega (arith, c.loop-core-test.true, c.requires.cores) in (
-      sees_more c.args.sizes.now w v c.loop-core.core k c.loop-core.invariant.0 u c.in-ok-undo-core.ensures.kept,
-      c.in-ok-undo-core.ensures.rest,
-      core_more c.args.sizes.now w v c.loop-core.core k c.loop-core.invariant.0 u c.in-ok-undo-core.ensures.ran c.loop-core.invariant.2,
+      sees_more c.args.sizes.now w v c.loop-core.core k c.loop-core.invariant.0 u c.in_ok-undo_core.ensures.kept,
+      c.in_ok-undo_core.ensures.rest,
+      core_more c.args.sizes.now w v c.loop-core.core k c.loop-core.invariant.0 u c.in_ok-undo_core.ensures.ran c.loop-core.invariant.2,
     )
 
 pub returns : goal.returns

@@ -5,21 +5,21 @@ use Rattle.undo_log.specs.Calls.{world}
 use Rattle.recovery.proofs.Cores.{cores_more, cores_stop, cores_end}
 use Rattle.recovery.proofs.walk.check_cores.Goals as goal
 
-pub returns-in-err-more : goal.returns-in-err-more
-returns-in-err-more g c =
+pub returns-in_err-more : goal.returns-in_err-more
+returns-in_err-more g c =
     let w = world g.M.Memory.meaning c.args.log.now in
-    let p = err_from_is_err_and c.from-residual.result c.from-residual.ensures.1 in
+    let p = err_from_is_err_and c.from_residual.result c.from_residual.ensures.1 in
     rw (p.1, p.2) (cores_stop c.args.sizes.now (content_at w.memory) c.loop-core.core w.block _ _ c.loop-core.invariant.2 _
-    (omega (arith, c.loop-core-test.true, c.requires.cores)) c.in-err-more.ensures.tallied)
+    (omega (arith, c.loop-core-test.true, c.requires.cores)) c.in_err-more.ensures.tallied)
 
 pub loop-core-preserved : goal.loop-core-preserved
 loop-core-preserved g c =
     let w = world g.M.Memory.meaning c.args.log.now in
-    let f = c.in-ok-more.ensures.few in (
+    let f = c.in_ok-more.ensures.few in (
       omega (arith, f.0),
       omega (arith, f.1),
       cores_more c.args.sizes.now (content_at w.memory) c.loop-core.core w.block _ _ c.loop-core.invariant.2 _ (omega (arith, c.loop-core-test.true, c.requires.cores))
-          c.in-ok-more.ensures.tallied,
+          c.in_ok-more.ensures.tallied,
     )
 
 pub returns : goal.returns

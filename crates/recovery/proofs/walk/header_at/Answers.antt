@@ -10,29 +10,29 @@ returns-then-bucket-sizes g c =
     elim c.then-bucket-sizes.branch [ then-bucket-sizes-via-then-bucket-sizes w ↦ inl w.if-bucket-sizes.true | then-bucket-sizes-via-else-bucket-sizes+then-slot-sizes w ↦ inr w.if-slot-sizes.true ] in
     header_outside c.args.sizes.now _ _ _ _ _ _ h
 
-pub overflow-cast-header-line : goal.overflow-cast-header-line
-overflow-cast-header-line g c =
-    let k = c.header-line.ensures.apart.inside c.if-bucket-sizes.false c.if-slot-sizes.false (omega arith) in
+pub overflow_cast-header_line : goal.overflow_cast-header_line
+overflow_cast-header_line g c =
+    let k = c.header_line.ensures.apart.inside c.if-bucket-sizes.false c.if-slot-sizes.false (omega arith) in
     omega (arith, lines_few c.args.sizes.now c.requires.bounded)
 
-pub returns-in-default : goal.returns-in-default
-returns-in-default g c =
-    header_unread c.args.sizes.now _ _ _ _ _ _ _ _ c.memory.ensures c.requires.on c.if-bucket-sizes.false c.if-slot-sizes.false c.header-line.ensures.at _
-    c.read.ensures c.in-default.not-Ok
+pub returns-in_default : goal.returns-in_default
+returns-in_default g c =
+    header_unread c.args.sizes.now _ _ _ _ _ _ _ _ c.memory.ensures c.requires.on c.if-bucket-sizes.false c.if-slot-sizes.false c.header_line.ensures.at _
+    c.read.ensures c.in_default.not-Ok
 
-pub returns-in-err-header : goal.returns-in-err-header
-returns-in-err-header g c =
-    rw c.from-residual.ensures (header_read c.args.sizes.now _ _ _ _ _ _ _ _ c.memory.ensures c.requires.on c.if-bucket-sizes.false c.if-slot-sizes.false
-    c.header-line.ensures.at _ _ c.in-Ok.ensures c.in-err-header.ensures.read)
+pub returns-in_err-header : goal.returns-in_err-header
+returns-in_err-header g c =
+    rw c.from_residual.ensures (header_read c.args.sizes.now _ _ _ _ _ _ _ _ c.memory.ensures c.requires.on c.if-bucket-sizes.false c.if-slot-sizes.false
+    c.header_line.ensures.at _ _ c.in-Ok.ensures c.in_err-header.ensures.read)
 
-pub returns-then-not-header-fits : goal.returns-then-not-header-fits
-returns-then-not-header-fits g c =
-    sym (cond-false _ _ _ (sym c.if-not-header-fits.ensures))
-    ∙ header_read c.args.sizes.now _ _ _ _ _ _ _ _ c.memory.ensures c.requires.on c.if-bucket-sizes.false c.if-slot-sizes.false c.header-line.ensures.at _ _
-    c.in-Ok.ensures c.in-ok-header.ensures.read
+pub returns-then-not-header_fits : goal.returns-then-not-header_fits
+returns-then-not-header_fits g c =
+    sym (cond-false _ _ _ (sym c.if-not-header_fits.ensures))
+    ∙ header_read c.args.sizes.now _ _ _ _ _ _ _ _ c.memory.ensures c.requires.on c.if-bucket-sizes.false c.if-slot-sizes.false c.header_line.ensures.at _ _
+    c.in-Ok.ensures c.in_ok-header.ensures.read
 
 pub returns : goal.returns
 returns g c =
-    sym (cond-true _ _ _ (sym c.if-not-header-fits.ensures))
-    ∙ header_read c.args.sizes.now _ _ _ _ _ _ _ _ c.memory.ensures c.requires.on c.if-bucket-sizes.false c.if-slot-sizes.false c.header-line.ensures.at _ _
-    c.in-Ok.ensures c.in-ok-header.ensures.read
+    sym (cond-true _ _ _ (sym c.if-not-header_fits.ensures))
+    ∙ header_read c.args.sizes.now _ _ _ _ _ _ _ _ c.memory.ensures c.requires.on c.if-bucket-sizes.false c.if-slot-sizes.false c.header_line.ensures.at _ _
+    c.in-Ok.ensures c.in_ok-header.ensures.read
