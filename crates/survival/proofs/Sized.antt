@@ -2,6 +2,7 @@
 use Rattle.std.proofs.Common.{◌≡◌, ℕ, ◌<◌, ◌≤◌, true, List, length, get_or, take, None, Option, ap, ◌∙◌, ⊎_elim, arith}
 use Rattle.std.proofs.lemmas.List.{get_or-take, get_or_past, length-take-le}
 use Rattle.std.proofs.lemmas.Bool.{cases_lt}
+use Rattle.memory.specs.declared.Memory.{Ghosts}
 use Rattle.memory.specs.Meaning.{Meaning}
 use Rattle.layout.specs.declared.open.OpenRecord.{OpenRecord}
 use Rattle.undo_log.specs.declared.state.Log.{Log}
@@ -24,7 +25,7 @@ open_fits_lem cores opens le h k =
     ⊎_elim (λ (q : k < cores). ap open_fits (get_or-take cores opens k None q) ∙ h k)
     (λ (q : cores ≤ k). ap open_fits (get_or_past (take cores opens) k None (omega (arith, length-take-le cores opens le)))) (cases_lt k cores)
 
-pub log_sized : {X : Type 0} (meaning : X → Meaning) (l : Log X) → Sized (notes_of l) (world meaning l)
+pub log_sized : {X : Type 0} {G : Ghosts X} (meaning : X → Meaning) (l : Log X G) → Sized (notes_of l) (world meaning l)
 log_sized meaning l =
     record {
       bounded = record { lines = l.«data»; buckets = l.buckets; records = l.records; cores = l.cores };

@@ -6,8 +6,8 @@ pub returns : goal.returns
 returns g c =
     let m = g.M.Memory.meaning in
     let l = c.args.log.now in
-    let l' = c.power-up.new.self in
-    let did = c.power-up.ensures in
+    let l' = c.power_up.new.self in
+    let did = c.power_up.ensures in
     record {
       memory = did.memory;
       block = did.block;

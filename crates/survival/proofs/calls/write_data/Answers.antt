@@ -6,12 +6,12 @@ pub returns : goal.returns
 returns g c =
     let m = g.M.Memory.meaning in
     let l = c.args.log.now in
-    let l' = c.write-data.new.self in
-    let did = c.write-data.ensures in
+    let l' = c.write_data.new.self in
+    let did = c.write_data.ensures in
     record {
       did = did.did;
       rest = did.rest;
       orderly =
-          orderly_data (notes_of l) (notes_of l') (world m l) (world m l') c.args.place c.args.line c.args.content.now c.write-data.result
+          orderly_data (notes_of l) (notes_of l') (world m l) (world m l') c.args.place c.args.line c.args.content.now c.write_data.result
           did.rest did.did;
     }
