@@ -1,4 +1,6 @@
 // The search for a free bucket: one that no core's vector has and in which no open record lies.
+#![tactic(auto)]
+
 ghost use Rattle.std.specs.Prelude.{◌≡◌};
 ghost use Rattle.buckets.specs.Buckets.{claimed, lies_in, in_use, free, lowest_free, LowestFree};
 

@@ -1,5 +1,7 @@
 // The header of a record as 64 bytes, and back: any 64 bytes are declined, or read as a header that is written as those
 // very bytes.
+#![tactic(auto)]
+
 ghost use Rattle.std.specs.Prelude.{◌≡◌, ℕ, ◌+◌, ◌/◌, ◌<◌, ◌≤◌, true, map, length, take, Some, slice_index};
 ghost use Rattle.std.specs.List.{range_with_len};
 ghost use Rattle.header.specs.Bytes.{patched};

@@ -1,5 +1,7 @@
 // Lines of 64 bytes within lent bytes: line l is bytes 64 l to 64 l + 63. A rest below 64 bytes is no line and is never
 // touched.
+#![tactic(auto)]
+
 ghost use Rattle.std.specs.Prelude.{◌≡◌, ◌+◌, ◌*◌, ◌/◌, length};
 ghost use Rattle.lines.specs.Lines.{count_of, line_at, with_line, rest_of, torn};
 

@@ -3,9 +3,9 @@ use crate::common::SIZES;
 use header::{Header, encode};
 use layout::BlockEntry;
 use lines::write_line;
-use undo_log::{Log, LogFault};
 use memory::Memory;
 use straight::Straight;
+use undo_log::{Log, LogFault};
 
 // The header of a record with one entry, of line 3.
 fn one_entry(core: u8, before: u8, number: u32) -> [u8; 64] {

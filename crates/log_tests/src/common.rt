@@ -1,8 +1,8 @@
 // A small log for the tests: 40 lines.
 use layout::{BlockEntry, Sizes};
-use undo_log::{Log, LogFault};
 use memory::Memory;
 use std::process::Abort;
+use undo_log::{Log, LogFault};
 
 pub(crate) const SIZES: Sizes = Sizes {
     data_lines: 8,

@@ -1,3 +1,5 @@
+#![tactic(auto)]
+
 // Tests of headers, of the log manager and of recovery at their edges.
 #[cfg(test)]
 mod chains;

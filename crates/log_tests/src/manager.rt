@@ -1,10 +1,10 @@
 // The log manager: where entries go, when a record is closed, and when there is no room.
 use crate::common::{SIZES, begin, held};
 use layout::{BlockEntry, Sizes};
-use undo_log::{Log, LogFault, Place};
 use memory::{Memory, MemoryFault, Operation};
 use std::process::Abort;
 use straight::Straight;
+use undo_log::{Log, LogFault, Place};
 
 fn append_lines<M: Memory>(rt: &impl Abort, log: &mut Log<M>, core: u8, count: u16) {
     for i in 0..count {

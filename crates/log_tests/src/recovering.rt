@@ -1,12 +1,12 @@
 // Recovery: what it restores, whatever the unfenced lines became, and at whichever operation power goes.
 use crate::common::begin;
 use layout::{BlockEntry, Sizes};
-use undo_log::{Log, LogFault, Place};
 use memory::{Memory, MemoryFault, Operation};
 use queued::Queued;
 use recovery::recover;
 use std::process::Abort;
 use straight::Straight;
+use undo_log::{Log, LogFault, Place};
 
 // Core 0 logs lines 3 and 5 and again line 3, closing after each two; core 1 logs line 6. Each changes its lines.
 fn update<M: Memory>(log: &mut Log<M>) -> Result<(), LogFault> {

@@ -1,12 +1,12 @@
 // What a cut right after an append or a close leaves to be found.
 use crate::common::{begin, held};
 use layout::BlockEntry;
-use undo_log::{Log, LogFault};
 use memory::Memory;
 use queued::Queued;
 use std::process::Abort;
 use straight::Straight;
 use survival::{append_and_cut, close_and_cut};
+use undo_log::{Log, LogFault};
 
 // So many entries, and then one more with a cut: only the seventh closes its record, and that is found.
 fn append_after<M: Memory>(rt: &impl Abort, log: &mut Log<M>, count: u16) {

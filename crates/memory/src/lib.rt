@@ -1,5 +1,7 @@
 // A memory of 64-byte lines whose power can go, by its meaning: what each kind of memory has to show, and all that a
 // user may rest on.
+#![tactic(auto)]
+
 ghost use Rattle.std.specs.Prelude.{◌≡◌, length};
 ghost use Rattle.memory.specs.Meaning.{Meaning, Sound, Reads, Writes, Fences, Cuts, powered_up};
 

@@ -1,3 +1,5 @@
+#![tactic(auto)]
+
 // Tests of the two kinds of memory at their edges.
 #[cfg(test)]
 mod laws;

@@ -1,9 +1,8 @@
 -- What the old and the new content of a line are called, and that they are told apart.
-use Rattle.std.proofs.Common.{◌≡◌, ℕ, ◌+◌, ◌%◌, Bool, true, false, List, get_or, Decides, sym, refl, ap, ◌∙◌, arith, rules}
+use Rattle.std.proofs.Common.{◌≡◌, ℕ, ◌+◌, ◌%◌, Bool, true, false, List, get_or, sym, refl, ap, arith}
 use Rattle.std.specs.Str.{bytes_eq}
 use Rattle.std.proofs.lemmas.Slice.Eq.{bytes_eq-Decides}
-use Rattle.lines.specs.Lines.{torn}
-use Rattle.outage.specs.declared.content.Stands.TheVariants.{Old, New, Torn, Other}
+use Rattle.outage.specs.declared.content.Stands.TheVariants.{Old, New}
 use Rattle.outage.specs.declared.history.Asked.{Asked}
 use Rattle.outage.specs.declared.history.Asked.TheVariants.{Nothing}
 use Rattle.outage.specs.declared.history.Asked.TheVariants as asked

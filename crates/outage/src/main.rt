@@ -1,4 +1,6 @@
 // Outage: writes and fences lines, loses power, and tells what stands.
+#![tactic(auto)]
+
 use run::account_of;
 use std::io;
 use story::{KINDS, PARTS};

@@ -1,5 +1,7 @@
 // Queued memory: up to sixteen written lines wait in a queue, in order of entry, and a choice made beforehand says what
 // a cut leaves of each.
+#![tactic(auto)]
+
 ghost use Rattle.std.specs.Prelude.{◌≡◌, ◌≤◌, true, [], length, nat_lt};
 ghost use Rattle.lines.specs.Lines.{count_of, line_at, rest_of};
 ghost use Rattle.memory.specs.Meaning.{Sound, Writes, Fences, Cuts, powered_up};

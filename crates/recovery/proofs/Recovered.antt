@@ -1,5 +1,5 @@
 -- The check and the undoing put together.
-use Rattle.std.proofs.Common.{◌≡◌, ℕ, true, false, ◌⊎◌, is_ok, Ok, Err, Result, sym, refl, ap, ◌∙◌, subst, ⊎_elim, arith}
+use Rattle.std.proofs.Common.{◌≡◌, ℕ, true, false, is_ok, Ok, Err, Result, sym, refl, ap, ◌∙◌, subst, ⊎_elim, arith}
 use Rattle.std.proofs.lemmas.Bool.{cases_Bool}
 use Rattle.memory.specs.Meaning.{content_at}
 use Rattle.layout.specs.declared.sizes.Sizes.{Sizes}

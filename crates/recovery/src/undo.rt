@@ -15,8 +15,8 @@ ghost use Rattle.recovery.specs.Walk.{walk_of, found};
 use crate::walk::{bucket_next, check, header_at, slot_next};
 use header::Header;
 use layout::{Sizes, entry_line};
-use undo_log::{Log, LogFault, Place};
 use memory::Memory;
+use undo_log::{Log, LogFault, Place};
 
 // Writes the content of one line to another, which is a data line.
 fn restore<M: Memory>(log: &mut Log<M>, place: Place, from: u16, to: u16) -> Result<(), LogFault>

@@ -8,8 +8,8 @@ ghost use Rattle.recovery.specs.Walk.{fits, header_at, bucket_next, slot_next, w
 
 use header::{Header, decode};
 use layout::{BlockEntry, Sizes, has_bucket, header_line};
-use undo_log::{Log, LogFault};
 use memory::Memory;
+use undo_log::{Log, LogFault};
 
 fn header_fits(sizes: &Sizes, core: u8, held: &BlockEntry, number: u32, header: &Header) -> bool
     ensures { result ≡ fits sizes.now core held.now number header.now }

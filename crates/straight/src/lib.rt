@@ -1,4 +1,6 @@
 // Straight memory: every completed write goes straight into the lent bytes, so every line is always durable.
+#![tactic(auto)]
+
 ghost use Rattle.std.specs.Prelude.{◌≡◌};
 ghost use Rattle.lines.specs.Lines.{line_at, rest_of};
 ghost use Rattle.memory.specs.Meaning.{Sound, Writes, Fences, Cuts, powered_up};

@@ -10,7 +10,7 @@ use Rattle.layout.specs.Places.{header_line, entry_line}
 use Rattle.layout.specs.Sizes.{data_lines_of}
 use Rattle.header.specs.Header.{written}
 use Rattle.undo_log.specs.declared.fault.LogFault.{LogFault}
-use Rattle.undo_log.specs.Append.{appending, appended_notes, AppendsTo, Appends}
+use Rattle.undo_log.specs.Append.{appended_notes, AppendsTo, Appends}
 use Rattle.undo_log.specs.Closing.{Notes, open_at, before_at, header_of, with_open, closing, closed_notes, Closes}
 use Rattle.undo_log.specs.Open.{log_target, with_line}
 use Rattle.undo_log.specs.Steps.{World, Ran}

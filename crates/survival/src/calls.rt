@@ -10,8 +10,8 @@ ghost use Rattle.survival.specs.Calls.{Begins, OrderlyStart, OrderlyAppend, Orde
 ghost use Rattle.survival.specs.Survives.{SurvivesAppend, SurvivesClose};
 
 use layout::{BlockEntry, Sizes};
-use undo_log::{Log, LogFault, Place};
 use memory::Memory;
+use undo_log::{Log, LogFault, Place};
 
 // Starts a log with an empty block; the memory is cut.
 pub fn begin<M: Memory>(log: &mut Log<M>, sizes: Sizes) -> Result<(), LogFault>

@@ -1,11 +1,13 @@
 // What was logged and closed is found again after any cut, and what was not closed is not found: the law, on two calls of a
 // log in order, and the manager's own calls, which keep it so.
+#![tactic(auto)]
+
 ghost use Rattle.undo_log.specs.Calls.{world, notes_of};
 ghost use Rattle.survival.specs.Survives.{ClosesAndCuts, SurvivesClose, AppendsAndCuts, SurvivesAppend};
 
 pub use calls::{begin, close_record, empty_log, fence, log_line, power_up, write_data};
-use undo_log::{Log, LogFault};
 use memory::Memory;
+use undo_log::{Log, LogFault};
 
 mod calls;
 

@@ -1,4 +1,6 @@
 // Undo: two cores log and change lines, power goes at each operation of a closing in turn, and recovery undoes.
+#![tactic(auto)]
+
 use run::{Kind, run_on};
 use std::io;
 use telling::{tell_opening, tell_run};

@@ -1,11 +1,11 @@
 // Runs the story with power for so many operations of the closing, and then recovers.
 use crate::story::{OPERATIONS, SIZES, prepare, settle};
-use undo_log::{Log, LogFault};
 use memory::Memory;
 use queued::Queued;
 use recovery::{check, recover};
 use straight::Straight;
 use survival::{begin, close_and_cut, power_up};
+use undo_log::{Log, LogFault};
 
 #[derive(Clone, Copy)]
 pub(crate) enum Kind {

@@ -1,8 +1,8 @@
 // What happens before the closing, in ten operations.
 use layout::Sizes;
-use undo_log::{Log, LogFault, Place};
 use memory::Memory;
 use survival::{close_record, fence, log_line, power_up, write_data};
+use undo_log::{Log, LogFault, Place};
 
 pub(crate) const SIZES: Sizes = Sizes {
     data_lines: 8,

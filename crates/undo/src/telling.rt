@@ -1,8 +1,8 @@
 // Prints what was found and undone.
 use crate::run::{Kind, Outcome};
-use undo_log::LogFault;
 use memory::MemoryFault;
 use std::io;
+use undo_log::LogFault;
 
 const STORY: [&str; 10] = [
     "What recovery finds and undoes, when power goes in the closing of a record",

@@ -1,5 +1,5 @@
 -- The steps of a closing, and the notes after it.
-use Rattle.std.proofs.Common.{◌≡◌, ℕ, ◌+◌, List, [], ◌∷◌, None, sym, refl, ap, ◌∙◌, subst, arith}
+use Rattle.std.proofs.Common.{◌≡◌, ℕ, [], ◌∷◌, None, refl, arith}
 use Rattle.memory.specs.Meaning.{Line}
 use Rattle.layout.specs.declared.block.BlockEntry.{BlockEntry}
 use Rattle.layout.specs.declared.open.OpenRecord.{OpenRecord}
@@ -8,7 +8,7 @@ use Rattle.layout.specs.Block.{counting}
 use Rattle.layout.specs.Places.{header_line, entry_line}
 use Rattle.header.specs.declared.Header.{Header}
 use Rattle.header.specs.Header.{written}
-use Rattle.undo_log.specs.Steps.{Step, write, fence, enter}
+use Rattle.undo_log.specs.Steps.{write, fence, enter}
 use Rattle.undo_log.specs.Closing.{Notes, noting, closing, record_place, header_of, bucket_before}
 
 -- the header's line

@@ -1,17 +1,17 @@
 -- The log as its user sees it, and what the shorter calls answer and leave.
-use Rattle.std.specs.Prelude.{◌≡◌, ℕ, ◌<◌, ◌≤◌, Bool, true, false, List, length, take, None, Ok, Err, Result, ◌≢◌}
+use Rattle.std.specs.Prelude.{◌≡◌, ℕ, ◌<◌, ◌≤◌, Bool, true, false, List, length, take, Ok, Err, Result, ◌≢◌}
 use Rattle.memory.specs.declared.Memory.{Ghosts}
-use Rattle.memory.specs.Meaning.{Meaning, Line, Cuts, powered_up}
+use Rattle.memory.specs.Meaning.{Meaning, Line, Cuts}
 use Rattle.layout.specs.declared.block.BlockEntry.{BlockEntry}
 use Rattle.layout.specs.declared.sizes.Sizes.{Sizes}
-use Rattle.layout.specs.Block.{empty, block_sound}
+use Rattle.layout.specs.Block.{block_sound}
 use Rattle.layout.specs.Sizes.{data_lines_of, sizes_fit}
 use Rattle.undo_log.specs.declared.fault.Place.{Place}
 use Rattle.undo_log.specs.declared.fault.LogFault.{LogFault}
 use Rattle.undo_log.specs.declared.fault.LogFault.TheVariants.{UnfitSizes, BrokenBlock, NoDataLine}
 use Rattle.undo_log.specs.declared.state.Log.{Log}
 use Rattle.undo_log.specs.Steps.{World, write, Does}
-use Rattle.undo_log.specs.Closing.{Notes, noting, blank_notes}
+use Rattle.undo_log.specs.Closing.{Notes, blank_notes}
 
 -- the block has an entry for each core
 abbrev pub world : {X : Type 0} {G : Ghosts X} → (X → Meaning) → Log X G → World

@@ -1,9 +1,9 @@
 -- The closing of a record, and what the manager has at hand besides block and memory.
-use Rattle.std.specs.Prelude.{◌≡◌, ℕ, ◌<◌, ◌≤◌, Bool, true, false, cond, List, [], ◌∷◌, length, replicate, Some, None, Ok, Err, Option, Result, ◌==◌, slice_index_or, slice_set}
+use Rattle.std.specs.Prelude.{◌≡◌, ℕ, ◌<◌, ◌≤◌, cond, List, [], ◌∷◌, replicate, Some, None, Ok, Err, Option, Result, ◌==◌, slice_index_or, slice_set}
 use Rattle.layout.specs.declared.block.BlockEntry.{BlockEntry}
 use Rattle.layout.specs.declared.open.OpenRecord.{OpenRecord}
 use Rattle.layout.specs.declared.sizes.Sizes.{Sizes}
-use Rattle.layout.specs.Block.{empty, entry_at, records_of, counting}
+use Rattle.layout.specs.Block.{entry_at, records_of, counting}
 use Rattle.layout.specs.Places.{header_line}
 use Rattle.header.specs.declared.Header.{Header}
 use Rattle.header.specs.Header.{written}

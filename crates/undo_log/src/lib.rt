@@ -1,4 +1,6 @@
 // The log manager over any memory: the block, the open records, the closing of a record.
+#![tactic(auto)]
+
 pub use fault::{LogFault, Place};
 pub use state::Log;
 

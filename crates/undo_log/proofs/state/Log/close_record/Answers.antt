@@ -1,7 +1,6 @@
-use Rattle.std.proofs.Common.{◌≡◌, ℕ, ◌<◌, get_or, take, None, sym, refl, ap, ◌∙◌, subst, arith}
+use Rattle.std.proofs.Common.{None, refl, ap, ◌∙◌, arith}
 use Rattle.std.proofs.lemmas.List.{length-set}
 use Rattle.std.proofs.lemmas.Result.{err_from_is_err_and}
-use Rattle.layout.specs.Block.{entry_at}
 use Rattle.undo_log.specs.Calls.{notes_of}
 use Rattle.undo_log.specs.Closing.{Notes}
 use Rattle.undo_log.proofs.Closings.{the_steps, the_notes}

@@ -1,4 +1,4 @@
-use Rattle.std.proofs.Common.{◌≡◌, List, take, set, None, sym, refl, ap, ◌∙◌, arith, rules}
+use Rattle.std.proofs.Common.{take, set, None, refl, ap, ◌∙◌, arith}
 use lib.Seq.{take-set-lt}
 use Rattle.std.proofs.lemmas.List.{length-set}
 use Rattle.layout.specs.declared.block.BlockEntry.{BlockEntry}

@@ -1,4 +1,4 @@
-use Rattle.std.proofs.Common.{◌≡◌, ◌∙◌}
+use Rattle.std.proofs.Common.{◌∙◌}
 use Rattle.layout.specs.Block.{empty}
 use Rattle.undo_log.proofs.Counting.{at_place, past_places}
 use Rattle.undo_log.proofs.state.Log.entry.Goals as goal

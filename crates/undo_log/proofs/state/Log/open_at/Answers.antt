@@ -1,4 +1,4 @@
-use Rattle.std.proofs.Common.{None, sym, refl, ap, ◌∙◌}
+use Rattle.std.proofs.Common.{None, refl}
 use Rattle.undo_log.proofs.Counting.{at_place, past_places}
 use Rattle.undo_log.proofs.state.Log.open_at.Goals as goal
 

@@ -1,4 +1,4 @@
-use Rattle.std.proofs.Common.{◌≡◌, ℕ, length, take, sym, refl, ap, ◌∙◌, arith}
+use Rattle.std.proofs.Common.{◌≡◌, ℕ, take, sym, refl, ap, ◌∙◌, arith}
 use Rattle.std.proofs.lemmas.List.{length-set, take_all, length-take-le}
 use Rattle.undo_log.proofs.Counting.{filled_more}
 use Rattle.undo_log.proofs.state.Log.read_block.Goals as goal

@@ -1,8 +1,7 @@
-use Rattle.std.proofs.Common.{◌≡◌, ℕ, ◌<◌, ◌≤◌, Bool, true, false, ◌&&◌, take, Some, None, Option, sym, refl, ap, ◌∙◌, arith, rules}
+use Rattle.std.proofs.Common.{◌≡◌, false, take, Some, None, refl, arith}
 use Rattle.std.proofs.lemmas.Bool.{and_left, and_right, le-ltb}
-use Rattle.layout.specs.declared.open.OpenRecord.{OpenRecord}
 use Rattle.layout.specs.Places.{in_log}
-use Rattle.undo_log.specs.Open.{open_fits, opening}
+use Rattle.undo_log.specs.Open.{opening}
 use Rattle.undo_log.proofs.Targets.{fits_from, is_open, is_here, is_first}
 use Rattle.undo_log.proofs.state.Log.record_for.Goals as goal
 use Rattle.undo_log.proofs.state.Log.record_for.Goals.{else-held-self-via-then-held-self+else-held-self-2, else-held-self-via-else-held-self}
