@@ -1,6 +1,6 @@
 -- A core's closed records as they stand: the walk finds them, each in its place, and their lines are durable.
 use Rattle.std.specs.Prelude.{◌≡◌, ℕ, ◌<◌, ◌≤◌, true, List}
-use Rattle.std.specs.List.{AllByRecursion as All}
+use Rattle.std.specs.List.{AllByRecursion}
 use Rattle.memory.specs.Meaning.{Meaning, Durable, content_at}
 use Rattle.layout.specs.declared.block.BlockEntry.{BlockEntry}
 use Rattle.layout.specs.declared.sizes.Sizes.{Sizes}
@@ -24,8 +24,8 @@ DurableRecord s m f = (i : ℕ) → i ≤ f.header.count → Durable m (entry_li
 -- core k's log in the world w is fs, newest first
 pub record Holds (s : Sizes) (w : World) (k : ℕ) (fs : List Found) : Type 0 where
   pub walked : walk_of s (content_at w.memory) k (entry_at w.block k) ≡ finds fs
-  pub placed : All (Placed s (entry_at w.block k)) fs
-  pub durable : All (DurableRecord s w.memory) fs
+  pub placed : AllByRecursion (Placed s (entry_at w.block k)) fs
+  pub durable : AllByRecursion (DurableRecord s w.memory) fs
 
 -- core k's log in w' is fs, and its entries have the content that they had in w
 pub record Kept (s : Sizes) (k : ℕ) (w w' : World) (fs : List Found) : Type 0 where
