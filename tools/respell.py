@@ -15,7 +15,7 @@ import sys
 WORD = re.compile(r"(?<![\w'◌-])[A-Za-z][\w'-]*")
 HUMP = re.compile(r"(?<=[a-z0-9])([A-Z])")
 SIGNATURE = re.compile(r"^\s*(?:(?:abbrev|unfoldable)\s+)?(?:pub\s+)?([A-Za-z][\w'-]*)\s.*?:\s*(.*)$")
-KEPT = {"length-addresses", "length-bytes_of", "length-renewed", "length-undo", "take-patched", "take-replicate", "drop-56", "set-blank"}
+KEPT = {"length-addresses", "length-bytes_of", "length-renewed", "length-undo", "take-patched", "drop-56", "set-blank"}
 OTHERS = {
     # fields of Sizes have these names
     "cacheLines": "cache_lines_of",

@@ -1,7 +1,6 @@
 // Headers, byte by byte.
 use crate::common::SIZES;
 use header::{Header, decode, encode};
-use std::test::Fail;
 
 fn two_entries() -> Header {
     Header {
@@ -33,7 +32,7 @@ fn each_field_has_its_place(rt: HostRuntime) {
 }
 
 #[test]
-fn a_header_reads_back(rt: HostRuntime) -> Result<(), Fail> {
+fn a_header_reads_back(rt: HostRuntime) {
     let bytes = encode(&two_entries());
     match decode(&SIZES, &bytes) {
         Some(header) => {
@@ -42,12 +41,8 @@ fn a_header_reads_back(rt: HostRuntime) -> Result<(), Fail> {
             assert_eq!(rt; header.core, 1);
             assert_eq!(rt; header.before, 255);
             assert_eq!(rt; header.number, 1);
-            Ok(())
         }
-        None => {
-            assert!(rt; false);
-            Ok(())
-        },
+        None => assert!(rt; false),
     }
 }
 

@@ -1,6 +1,6 @@
+// Tests of headers, of the log manager and of recovery at their edges.
 #![tactic(auto)]
 
-// Tests of headers, of the log manager and of recovery at their edges.
 #[cfg(test)]
 mod chains;
 #[cfg(test)]

@@ -1,6 +1,6 @@
+// Tests of the two kinds of memory at their edges.
 #![tactic(auto)]
 
-// Tests of the two kinds of memory at their edges.
 #[cfg(test)]
 mod laws;
 #[cfg(test)]

@@ -31,7 +31,7 @@ pub struct Queued<'a> {
 impl<'a> Queued<'a> {
     // A memory on all whole lines of the bytes, with power off and nothing queued. A rest below 64 bytes is never touched.
     pub fn new(bytes: &'a mut [u8], choice: u32) -> Queued<'a>
-        ensures parts { parts_of result ≡ record { bytes = bytes.entry.now; queue = []; power = Off } }
+        ensures parts { parts_of result ≡ record { bytes = bytes.old; queue = []; power = Off } }
         ensures choice { result.choice ≡ choice }
         ensures lender { result.bytes.ghost_name ≡ bytes.entry.ghost_name }
     {

@@ -22,7 +22,7 @@ pub data Walk : Type 0 where
 -- a bucket of the vector
 abbrev pub fits : Sizes → ℕ → BlockEntry → ℕ → Header → Bool
 fits s k e n h =
-    (h.core == k) && h.number == n && cond (nat_lt n s.records) (h.before == 255) (has e.vector h.before)
+    (h.core == k) && (h.number == n) && cond (nat_lt n s.records) (h.before == 255) (has e.vector h.before)
 
 abbrev pub fitting : Sizes → ℕ → BlockEntry → ℕ → Option Header → Option Header
 fitting s k e n None = None

@@ -107,7 +107,7 @@ module _ {T : Type 0} (s : Sizes) (e : BlockEntry) (was k l : ℕ) (c : Line) (o
   pub append_ways : Ran (appending s e was k o l c) w r u → T
   append_ways ran = ⊎_elim stopped wrote (write_ran (entry_line s o.bucket o.slot (o.count + 1)) c (record_place k o) _ w r u ran)
 
-module _ (n : Notes) (w : World) (k l : ℕ) (c : Line) (r : Result Unit LogFault) (u w' : World) (sized : Sized n w) (after : AllSpared u.memory w'.memory) (block : w'.block ≡ u.block) (o : OpenRecord) (core : k < n.sizes.cores) (data-line : l < data_lines_of n.sizes) (few : o.count < 7) (own : Own n w.block k o) where
+module _ (n : Notes) (w : World) (k l : ℕ) (c : Line) (r : Result Unit LogFault) (u w' : World) (sized : Sized n w) (after : AllSpared u.memory w'.memory) (block : w'.block ≡ u.block) (o : OpenRecord) (core : k < n.sizes.cores) (data_line : l < data_lines_of n.sizes) (few : o.count < 7) (own : Own n w.block k o) where
   p : Proper n.sizes (entry_at w.block k) (before_at n k) o
   p = own.proper
 
@@ -177,7 +177,7 @@ module _ (n : Notes) (w : World) (k l : ℕ) (c : Line) (r : Result Unit LogFaul
         let m = still x.mid k fs x.block here x.spared h in
         let y =
         closing_kept n.sizes (entry_at w.block k) (before_at n k) k (with_line o l) sized.bounded core
-        (proper_more n.sizes (entry_at w.block k) (before_at n k) o l data-line few p) (omega arith) (omega arith) x.mid u w' r fs
+        (proper_more n.sizes (entry_at w.block k) (before_at n k) o l data_line few p) (omega arith) (omega arith) x.mid u w' r fs
         (omega (arith, sized.block, ap length x.block)) (ap (λ (es : List BlockEntry). entry_at es k) x.block) m.holds x.rest after block
         in
         record {

@@ -35,10 +35,6 @@ or_next None next = next
 abbrev pub log_target : Sizes → List BlockEntry → List (Option OpenRecord) → ℕ → Option OpenRecord
 log_target s block opens k = or_next (slice_index_or opens k None) (next_record s block opens (entry_at block k))
 
-abbrev pub is_some : {A : Type 0} → Option A → Bool
-is_some None = false
-is_some (Some x) = true
-
 -- the record with one more entry, of line l
 abbrev pub with_line : OpenRecord → ℕ → OpenRecord
 with_line o l = record { bucket = o.bucket; slot = o.slot; count = o.count + 1; lines = slice_set o.lines o.count l }

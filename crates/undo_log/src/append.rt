@@ -1,9 +1,9 @@
 // Appending: a line's old content becomes the next entry of its core's open record, which is closed at the seventh.
-ghost use Rattle.std.specs.Prelude.{◌≡◌, ◌<◌, true, ◌&&◌, nat_lt};
+ghost use Rattle.std.specs.Prelude.{◌≡◌, ◌<◌, true, ◌&&◌, is_some, nat_lt};
 ghost use Rattle.undo_log.specs.Append.{AppendsTo, Appends};
 ghost use Rattle.undo_log.specs.Calls.{world, notes_of};
 ghost use Rattle.undo_log.specs.Closing.{open_at};
-ghost use Rattle.undo_log.specs.Open.{open_fits, log_target, with_line, is_some, among, names_line};
+ghost use Rattle.undo_log.specs.Open.{open_fits, log_target, with_line, among, names_line};
 
 use crate::{Log, LogFault, Place};
 use buckets::lowest_free;
