@@ -16,6 +16,8 @@ WORD = re.compile(r"(?<![\w'◌-])[A-Za-z][\w'-]*")
 HUMP = re.compile(r"(?<=[a-z0-9])([A-Z])")
 SIGNATURE = re.compile(r"^\s*(?:(?:abbrev|unfoldable)\s+)?(?:pub\s+)?([A-Za-z][\w'-]*)\s.*?:\s*(.*)$")
 KEPT = {"length-addresses", "length-bytes_of", "length-renewed", "length-undo", "take-patched", "drop-56", "set-blank"}
+# lemmas of the library with which a line of a proof begins, which reads like a signature
+KEPT |= {"take-replicate"}
 OTHERS = {
     # fields of Sizes have these names
     "cacheLines": "cache_lines_of",
