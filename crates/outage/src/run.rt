@@ -76,6 +76,7 @@ fn read_lines<M: Memory>(memory: &M) -> Result<[Stands; LINES], MemoryFault>
 
 // Loses power after some operations of the story, and powers up again to read.
 fn lose_power<M: Memory>(memory: &mut M, operations: u32) -> Result<Account, MemoryFault>
+    ensures tells { IfOk result (λ a. Tells STEPS a.history) }
     ensures asked { IfOk result (λ a. (k : Kind) → Honest M.Memory.meaning k → AsAsked k a) }
     ensures given { 6 ≤ length (M.Memory.meaning memory.old).lines → is_ok result ≡ true }
 {
@@ -87,8 +88,9 @@ fn lose_power<M: Memory>(memory: &mut M, operations: u32) -> Result<Account, Mem
     Ok(Account { history, stands })
 }
 
-// Each run gives an account, in which a line that is durable stands as asked.
+// Each run gives an account: how far the story came, and that a line that is durable stands as asked.
 pub(crate) fn account_of(kind: Kind, part: Part) -> Result<Account, MemoryFault>
+    ensures tells { IfOk result (λ a. Tells STEPS a.history) }
     ensures asked { IfOk result (AsAsked kind) }
     ensures given { is_ok result ≡ true }
 {

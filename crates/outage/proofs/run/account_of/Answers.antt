@@ -24,6 +24,7 @@ waits k choice e d = let dead : NotDurable ≡ Durable = sym (ap after_write e) 
 pub returns-in-Straight : goal.returns-in-Straight
 returns-in-Straight c =
     record {
+      tells = c.lose_power.ensures.tells;
       asked = IfOk-weaker c.lose_power.result _ (AsAsked c.args.kind) (λ a h. h c.args.kind (straight_honest c.args.kind)) c.lose_power.ensures.asked;
       given = c.lose_power.ensures.given (omega (arith, lines_length c.new.result.bytes.now, ap length c.new.ensures.bytes));
     }
@@ -31,6 +32,7 @@ returns-in-Straight c =
 pub returns-in-Queued : goal.returns-in-Queued
 returns-in-Queued c =
     record {
+      tells = c.lose_power-in-Queued.ensures.tells;
       asked = IfOk-weaker c.lose_power-in-Queued.result _ (AsAsked c.args.kind) (λ a h. h c.args.kind (λ e. absurd (waits c.args.kind _ c.in-Queued.is e))) c.lose_power-in-Queued.ensures.asked;
       given = c.lose_power-in-Queued.ensures.given (omega (arith, count_of_lem (parts_of c.new-in-Queued.result), ap (λ (s : Parts). length s.bytes) c.new-in-Queued.ensures.parts));
     }
