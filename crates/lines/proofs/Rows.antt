@@ -1,30 +1,20 @@
 -- The lines in a row of bytes, and what stands behind them, after one line is written.
-use Rattle.std.proofs.Common.{◌≡◌, ℕ, zero, suc, ◌+◌, ◌-◌, ◌*◌, ◌/◌, ◌<◌, ◌≤◌, Bool, true, false, cond, ltb, ◌≢◌, ◌⊎◌, List, [], ◌++◌, length, get_or, take, drop, set, Some, None, sym, refl, ap, ◌∙◌, inl, inr, le_of_suc-le-suc, not-suc-le-zero, add-zero, arith, length-append, length-drop, length-set, length-take, rules, ltb-false, ltb-true, lt-ltb}
-use Rattle.std.proofs.lemmas.List.{places, same_lists, drop_at, take_at, length-take-le, get_or-set_same, get_or-set_other, get_or-take, get_or-drop, set_past}
+use Rattle.std.proofs.Common.{◌≡◌, ℕ, zero, suc, ◌+◌, ◌-◌, ◌*◌, ◌/◌, ◌<◌, ◌≤◌, Bool, true, false, cond, ltb, ◌≢◌, ◌⊎◌, List, [], ◌++◌, length, get_or, take, drop, set, Some, None, Option, is_some, unwrap_or, ok_or, Ok, Err, sym, refl, ap, ◌∙◌, inl, inr, arith, length-append, length-drop, length-set, length-take, rules, ltb-false, ltb-true, lt-ltb}
+use Rattle.std.specs.Option.{option_map}
+use Rattle.std.specs.Simd.{first_chunks}
+use Rattle.std.proofs.lemmas.List.{places, same_lists, drop-drop, drop_at, take_at, length-take-le, get_or-set_same, get_or-set_other, get_or-take, get_or-drop, set_past}
+use Rattle.std.proofs.lemmas.List.FromFn.{length-map-range_with_len, get_or-map-range_with_len}
 use Rattle.std.proofs.lemmas.Bool.{cases_eq}
 use borrow.Rule.Slice.PartMut.{put_mid, Post-is}
 use Rattle.lines.specs.Lines.{Line, count_of, line_of, line_at, with_line, counted, lines_of, rest_of, torn}
 
-pub counted_length : {A : Type 0} (f : ℕ → A) (i n : ℕ) → length (counted f i n) ≡ n
-unfolding counted
-counted_length f i zero = refl
-counted_length f i (suc n) = ap suc (counted_length f (suc i) n)
-
-counted_from : {A : Type 0} (f : ℕ → A) (i n k : ℕ) (d : A) → k < n → get_or (counted f i n) k d ≡ f (i + k)
-unfolding counted
-counted_from f i zero k d h = absurd (not-suc-le-zero h)
-counted_from f i (suc n) zero d h = ap f (sym (add-zero i))
-counted_from f i (suc n) (suc k) d h =
-    let e : suc i + k ≡ i + suc k = omega arith in
-    counted_from f (suc i) n k d (le_of_suc-le-suc h) ∙ ap f e
-
 -- element k of a counted list is f k
-pub counted_at : {A : Type 0} (f : ℕ → A) (n k : ℕ) (d : A) → k < n → get_or (counted f 0 n) k d ≡ f k
-counted_at f n k d h = let e : 0 + k ≡ k = omega arith in counted_from f 0 n k d h ∙ ap f e
+pub counted_at : {A : Type 0} (f : ℕ → A) (n k : ℕ) (d : A) → k < n → get_or (counted f n) k d ≡ f k
+counted_at f n k d h = get_or-map-range_with_len f 0 n k k d h (omega arith)
 
 pub lines_length : (bs : List ℕ) → length (lines_of bs) ≡ count_of bs
 unfolding lines_of
-lines_length bs = counted_length (line_of bs) 0 (count_of bs)
+lines_length bs = length-map-range_with_len (line_of bs) 0 (count_of bs)
 
 pub line_at_lem : (bs : List ℕ) (k : ℕ) (d : Line) → k < count_of bs → get_or (lines_of bs) k d ≡ line_of bs k
 unfolding lines_of
@@ -110,6 +100,29 @@ with_there bs l c h = rw (lt-ltb l (count_of bs) h) refl
 pub lent_middle : (bs ys : List ℕ) (l : ℕ) (c : Line) → ys ≡ c → l < count_of bs → put_mid (l * 64) (l * 64 + 64 - l * 64) bs ys ≡ with_line bs l c
 lent_middle bs ys l c e h = rw (e, Post-is (l * 64) (l * 64 + 64) bs (omega arith)) (sym (with_there bs l c h))
 
+-- the bytes cut into chunks of 64: chunk l is line l
+chunks_length : (n : ℕ) (bs : List ℕ) → length (first_chunks 64 n bs) ≡ n
+chunks_length zero bs = refl
+chunks_length (suc n) bs = ap suc (chunks_length n (drop 64 bs))
+
+chunk_at : (n k : ℕ) (bs : List ℕ) (d : Line) → k < n → get_or (first_chunks 64 n bs) k d ≡ line_of bs k
+chunk_at zero k bs d h = absurd (omega arith)
+chunk_at (suc n) zero bs d h = refl
+chunk_at (suc n) (suc k) bs d h =
+    let e : 64 + k * 64 ≡ suc k * 64 = omega arith in
+    chunk_at n k (drop 64 bs) d (omega arith) ∙ ap (take 64) (drop-drop (k * 64) 64 bs ∙ ap (λ (i : ℕ). drop i bs) e)
+
+-- what a look-up among the chunks gives
+pub line_among : {X : Type 0} (f : X → Line) (bs : List ℕ) (l : ℕ) (chunks : List Line) (o : Option X) → chunks ≡ first_chunks 64 (count_of bs) bs → is_some o ≡ ltb l (length chunks) → ((d : Line) → unwrap_or (option_map f o) d ≡ get_or chunks l d) → option_map f o ≡ line_at bs l
+line_among {X} f bs l chunks o e s u =
+    go o (ltb l (count_of bs)) refl (s ∙ ap (ltb l) (ap length e ∙ chunks_length (count_of bs) bs)) (u [] ∙ ap (λ (xs : List Line). get_or xs l []) e)
+  where
+    go : (p : Option X) (b : Bool) → ltb l (count_of bs) ≡ b → is_some p ≡ ltb l (count_of bs) → unwrap_or (option_map f p) [] ≡ get_or (first_chunks 64 (count_of bs) bs) l [] → option_map f p ≡ cond b (Some (line_of bs l)) None
+    go None true k q x = absurd (grind arith)
+    go None false k q x = refl
+    go (Some y) true k q x = ap Some (x ∙ chunk_at (count_of bs) l bs [] (ltb-true l (count_of bs) k))
+    go (Some y) false k q x = absurd (grind arith)
+
 -- what a read of a line says of it
 pub line_none : (bs : List ℕ) (l : ℕ) → line_at bs l ≡ None → length (lines_of bs) ≤ l
 line_none bs l e = go (ltb l (count_of bs)) refl e
@@ -124,6 +137,22 @@ line_some bs l x e = go (ltb l (count_of bs)) refl e
     go : (b : Bool) → ltb l (count_of bs) ≡ b → cond b (Some (line_of bs l)) None ≡ Some x → (l < count_of bs) × (x ≡ line_of bs l)
     go true p q = (ltb-true l (count_of bs) p, cc)
     go false p q = absurd (grind arith)
+
+-- the same where a missing line is answered by an error
+module _ {E : Type 0} (bs : List ℕ) (l : ℕ) (d : E) where
+  pub line_err : (e : E) → ok_or (line_at bs l) d ≡ Err e → (length (lines_of bs) ≤ l) × (e ≡ d)
+  line_err e q = go (line_at bs l) refl q
+    where
+      go : (o : Option Line) → line_at bs l ≡ o → ok_or o d ≡ Err e → (length (lines_of bs) ≤ l) × (e ≡ d)
+      go None p k = (line_none bs l p, cc)
+      go (Some x) p k = absurd (cc)
+
+  pub line_ok : (x : Line) → ok_or (line_at bs l) d ≡ Ok x → (l < count_of bs) × (x ≡ line_of bs l)
+  line_ok x q = go (line_at bs l) refl q
+    where
+      go : (o : Option Line) → line_at bs l ≡ o → ok_or o d ≡ Ok x → (l < count_of bs) × (x ≡ line_of bs l)
+      go None p k = absurd (cc)
+      go (Some y) p k = let at = line_some bs l y p in (at.0, cc)
 
 -- every line is 64 bytes
 pub lines_whole : (bs : List ℕ) (l : ℕ) → l < length (lines_of bs) → length (get_or (lines_of bs) l []) ≡ 64

@@ -16,16 +16,13 @@ pub fn line_count(bytes: &[u8]) -> usize
 pub fn read_line(bytes: &[u8], line: u16) -> Option<[u8; 64]>
     ensures { result ≡ line_at bytes.now line }
 {
-    if line as usize >= line_count(bytes) {
-        return None;
-    }
-    let at = line as usize * 64;
-    let mut content = [0; 64];
-    content.copy_from_slice(&bytes[at..at + 64]);
-    Some(content)
+    let (lines, _) = bytes.as_chunks::<64>();
+    // by `as`, here and below: a proof sees nothing through `usize::from`
+    lines.get(line as usize).copied()
 }
 
 // Writes a line into its own 64 bytes; without such a line nothing changes.
+// By the rules the line writer is lent that part of the bytes alone.
 pub fn write_line(bytes: &mut [u8], line: u16, content: &[u8; 64])
     ensures after { bytes.new ≡ with_line bytes.old line content.now }
     ensures rest { rest_of bytes.new ≡ rest_of bytes.old }
@@ -37,7 +34,7 @@ pub fn write_line(bytes: &mut [u8], line: u16, content: &[u8; 64])
     fill_line(&mut bytes[at..at + 64], content);
 }
 
-// The line writer: it is lent just the line's bytes.
+// The line writer.
 fn fill_line(part: &mut [u8], content: &[u8; 64])
     requires { length part.old ≡ 64 }
     ensures { part.new ≡ content.now }

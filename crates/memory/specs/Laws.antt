@@ -15,9 +15,9 @@ pub record Spared (m : Meaning) (l : ℕ) (m' : Meaning) : Type 0 where
 -- other line: r is the read's answer.
 pub record Survives (m : Meaning) (l : ℕ) (c : Line) (k : ℕ) (r : Result Line MemoryFault) (m' : Meaning) : Type 0 where
   pub missing : length m.lines ≤ l → (r ≡ Err (NoSuchLine l)) × (m' ≡ m)
-  pub dark : l < length m.lines → m.on ≡ false → (r ≡ Err (NoPower Write l)) × (m' ≡ m)
-  pub at_write : l < length m.lines → m.on ≡ true → m.left ≡ 0 → (r ≡ Err (NoPower Write l)) × Spared m l m'
-  pub at_fence : l < length m.lines → m.on ≡ true → m.left ≡ 1 → (r ≡ Err (NoPower Fence 65535)) × Spared m l m'
+  pub dark : l < length m.lines → m.on ≡ false → (r ≡ Err (NoPower (Write l))) × (m' ≡ m)
+  pub at_write : l < length m.lines → m.on ≡ true → m.left ≡ 0 → (r ≡ Err (NoPower (Write l))) × Spared m l m'
+  pub at_fence : l < length m.lines → m.on ≡ true → m.left ≡ 1 → (r ≡ Err (NoPower Fence)) × Spared m l m'
   pub reads : l < length m.lines → m.on ≡ true → 2 ≤ m.left → r ≡ Ok c
   pub lines : l < length m.lines → m.on ≡ true → 2 ≤ m.left → (j : ℕ) → content_at m' j ≡ slice_index_or (slice_set m.lines l c) j []
   pub left : l < length m.lines → m.on ≡ true → 2 ≤ m.left → (m'.on ≡ true) × (m'.left ≡ k)

@@ -68,15 +68,15 @@ pub record Reads (m : Meaning) (l : ℕ) (r : Result Line MemoryFault) : Type 0 
 pub record Writes (m : Meaning) (l : ℕ) (c : Line) (r : Result Unit MemoryFault) (m' : Meaning) : Type 0 where
   pub count : length m'.lines ≡ length m.lines
   pub missing : length m.lines ≤ l → (r ≡ Err (NoSuchLine l)) × (m' ≡ m)
-  pub dark : l < length m.lines → m.on ≡ false → (r ≡ Err (NoPower Write l)) × (m' ≡ m)
-  pub lost : l < length m.lines → m.on ≡ true → m.left ≡ 0 → (r ≡ Err (NoPower Write l)) × Cut (loosened m l) m'
+  pub dark : l < length m.lines → m.on ≡ false → (r ≡ Err (NoPower (Write l))) × (m' ≡ m)
+  pub lost : l < length m.lines → m.on ≡ true → m.left ≡ 0 → (r ≡ Err (NoPower (Write l))) × Cut (loosened m l) m'
   pub done : l < length m.lines → m.on ≡ true → 0 < m.left → (r ≡ Ok tt) × Wrote m l c m'
 
 -- what a fence answers and leaves
 pub record Fences (m : Meaning) (r : Result Unit MemoryFault) (m' : Meaning) : Type 0 where
   pub count : length m'.lines ≡ length m.lines
-  pub dark : m.on ≡ false → (r ≡ Err (NoPower Fence 65535)) × (m' ≡ m)
-  pub lost : m.on ≡ true → m.left ≡ 0 → (r ≡ Err (NoPower Fence 65535)) × Cut m m'
+  pub dark : m.on ≡ false → (r ≡ Err (NoPower Fence)) × (m' ≡ m)
+  pub lost : m.on ≡ true → m.left ≡ 0 → (r ≡ Err (NoPower Fence)) × Cut m m'
   pub done : m.on ≡ true → 0 < m.left → (r ≡ Ok tt) × Fenced m m'
 
 -- what a cut leaves

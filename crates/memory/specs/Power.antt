@@ -1,26 +1,31 @@
 -- A power supply: off, or on with some operations left.
-use Rattle.std.specs.Prelude.{ℕ, ◌-◌, Bool, true, false, cond, List, nat_lt}
+use Rattle.std.specs.Prelude.{ℕ, ◌-◌, Bool, cond, List, Some, None, Option, is_some, unwrap_or, nat_lt}
 use Rattle.memory.specs.declared.power.Power.{Power}
-use Rattle.memory.specs.declared.power.Power.TheVariants.{Off, On}
 use Rattle.memory.specs.Meaning.{Line, Meaning}
 
+-- this many operations left, if power is on
+abbrev pub supply : Option ℕ → Power
+supply left = record { left = left }
+
+abbrev pub off : Power
+off = supply None
+
+abbrev pub on : ℕ → Power
+on n = supply (Some n)
+
 abbrev pub is_on : Power → Bool
-is_on Off = false
-is_on (On n) = true
+is_on p = is_some p.left
 
 abbrev pub left_in : Power → ℕ
-left_in Off = 0
-left_in (On n) = n
+left_in p = unwrap_or p.left 0
 
 -- whether one more operation completes
 abbrev pub suffices : Power → Bool
-suffices Off = false
-suffices (On n) = nat_lt 0 n
+suffices p = nat_lt 0 (left_in p)
 
 -- what an operation leaves: one fewer, or with none left no power
 abbrev pub spent : Power → Power
-spent Off = Off
-spent (On n) = cond (nat_lt 0 n) (On (n - 1)) Off
+spent p = cond (suffices p) (on (left_in p - 1)) off
 
 -- the meaning of lines, marks of the durable ones, and a power supply
 abbrev pub meaning_of : List Line → List Bool → Power → Meaning

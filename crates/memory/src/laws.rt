@@ -16,9 +16,7 @@ pub fn write_fence_and_cut<M: Memory>(
 {
     memory.write(line, content)?;
     memory.fence()?;
-    memory.cut();
-    memory.power_up(operations);
-    memory.read(line)
+    read_after_cut(memory, line, operations)
 }
 
 // Cuts, powers up again and reads a line: no durable line was changed by the cut.

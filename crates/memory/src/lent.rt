@@ -4,6 +4,8 @@ use crate::{Memory, MemoryFault};
 impl<M: Memory> Memory for &mut M {
     ghost meaning = { λ lent. M.Memory.meaning lent.now };
 
+    ghost sound = { λ lent. M.Memory.sound lent.now };
+
     fn line_count(&self) -> usize {
         (**self).line_count()
     }

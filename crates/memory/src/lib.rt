@@ -20,8 +20,7 @@ pub trait Memory {
 
     // How many lines there are: it never changes.
     fn line_count(&self) -> usize
-        ensures count { result ≡ length (meaning self.now).lines }
-        ensures sound { Sound (meaning self.now) };
+        ensures { result ≡ length (meaning self.now).lines };
 
     fn is_on(&self) -> bool
         ensures { result ≡ (meaning self.now).on };
@@ -34,19 +33,18 @@ pub trait Memory {
         ensures { Reads (meaning self.now) line result };
 
     fn write(&mut self, line: u16, content: &[u8; 64]) -> Result<(), MemoryFault>
-        ensures did { Writes (meaning self.old) line content.now result (meaning self.new) }
-        ensures sound { Sound (meaning self.new) };
+        ensures did { Writes (meaning self.old) line content.now result (meaning self.new) };
 
     fn fence(&mut self) -> Result<(), MemoryFault>
-        ensures did { Fences (meaning self.old) result (meaning self.new) }
-        ensures sound { Sound (meaning self.new) };
+        ensures did { Fences (meaning self.old) result (meaning self.new) };
 
     // Power goes now.
     fn cut(&mut self)
-        ensures did { Cuts (meaning self.old) (meaning self.new) }
-        ensures sound { Sound (meaning self.new) };
+        ensures did { Cuts (meaning self.old) (meaning self.new) };
 
     fn power_up(&mut self, operations: u32)
-        ensures did { meaning self.new ≡ powered_up (meaning self.old) operations }
-        ensures sound { Sound (meaning self.new) };
+        ensures did { meaning self.new ≡ powered_up (meaning self.old) operations };
+
+    // what holds of it at every moment
+    ghost sound: { (m : Self) → Sound (meaning m) };
 }

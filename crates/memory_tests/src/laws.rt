@@ -1,28 +1,21 @@
 // The laws over any kind of memory, run on both.
-use memory::{Memory, MemoryFault, Operation, read_after_cut, read_twice, write_fence_and_cut};
+use crate::common::{NO_FENCE, NO_WRITE};
+use memory::{Memory, MemoryFault, read_after_cut, read_twice, write_fence_and_cut};
 use queued::Queued;
 use std::process::Abort;
 use straight::Straight;
 
 // A line that is written and fenced reads back, also where power goes at the write or at the fence before.
 fn written_and_fenced<M: Memory>(rt: &impl Abort, memory: &mut M) {
-    let no_write = MemoryFault::NoPower {
-        operation: Operation::Write,
-        line: 1,
-    };
-    let no_fence = MemoryFault::NoPower {
-        operation: Operation::Fence,
-        line: 65535,
-    };
     assert_eq!(rt;
         write_fence_and_cut(memory, 2, &[7; 64], 0),
         Err(MemoryFault::NoSuchLine { line: 2 })
     );
-    assert_eq!(rt; write_fence_and_cut(memory, 1, &[7; 64], 0), Err(no_write));
+    assert_eq!(rt; write_fence_and_cut(memory, 1, &[7; 64], 0), Err(NO_WRITE));
     memory.power_up(0);
-    assert_eq!(rt; write_fence_and_cut(memory, 1, &[7; 64], 0), Err(no_write));
+    assert_eq!(rt; write_fence_and_cut(memory, 1, &[7; 64], 0), Err(NO_WRITE));
     memory.power_up(1);
-    assert_eq!(rt; write_fence_and_cut(memory, 1, &[7; 64], 0), Err(no_fence));
+    assert_eq!(rt; write_fence_and_cut(memory, 1, &[7; 64], 0), Err(NO_FENCE));
     memory.power_up(2);
     assert_eq!(rt; write_fence_and_cut(memory, 1, &[7; 64], 5), Ok([7; 64]));
     assert_eq!(rt; memory.operations_left(), 5);
@@ -45,6 +38,7 @@ fn durable_and_read_twice<M: Memory>(rt: &impl Abort, memory: &mut M) {
     assert_eq!(rt; second, Ok([8; 64]));
 }
 
+// Each kind in a test of its own, so that a failure names it.
 #[test]
 fn on_straight_memory(rt: HostRuntime) {
     let mut bytes = [1; 128];
@@ -55,6 +49,6 @@ fn on_straight_memory(rt: HostRuntime) {
 #[test]
 fn on_queued_memory(rt: HostRuntime) {
     let mut bytes = [1; 128];
-    written_and_fenced(&rt, &mut Queued::new(&mut bytes, 4294967295));
-    durable_and_read_twice(&rt, &mut Queued::new(&mut bytes, 4294967295));
+    written_and_fenced(&rt, &mut Queued::new(&mut bytes, u32::MAX));
+    durable_and_read_twice(&rt, &mut Queued::new(&mut bytes, u32::MAX));
 }

@@ -1,26 +1,17 @@
 // Power: coming on, going, and what is declined without it.
-use memory::{Memory, MemoryFault, Operation};
+use crate::common::{NO_FENCE, NO_WRITE};
+use memory::{Memory, MemoryFault};
 use queued::Queued;
 use std::process::Abort;
 use straight::Straight;
-
-const NO_WRITE: Result<(), MemoryFault> = Err(MemoryFault::NoPower {
-    operation: Operation::Write,
-    line: 1,
-});
-
-const NO_FENCE: Result<(), MemoryFault> = Err(MemoryFault::NoPower {
-    operation: Operation::Fence,
-    line: 65535,
-});
 
 // A memory just made, with power off: everything is declined, and a missing line comes before the power.
 fn declines_while_off<M: Memory>(rt: &impl Abort, memory: &mut M) {
     assert_eq!(rt; memory.is_on(), false);
     assert_eq!(rt; memory.operations_left(), 0);
     assert_eq!(rt; memory.read(1), Err(MemoryFault::Unreadable { line: 1 }));
-    assert_eq!(rt; memory.write(1, &[7; 64]), NO_WRITE);
-    assert_eq!(rt; memory.fence(), NO_FENCE);
+    assert_eq!(rt; memory.write(1, &[7; 64]), Err(NO_WRITE));
+    assert_eq!(rt; memory.fence(), Err(NO_FENCE));
     assert_eq!(rt; memory.read(2), Err(MemoryFault::NoSuchLine { line: 2 }));
     assert_eq!(rt;
         memory.write(2, &[7; 64]),
@@ -45,7 +36,7 @@ fn loses_power_at_a_fence<M: Memory>(rt: &impl Abort, memory: &mut M) {
         Err(MemoryFault::NoSuchLine { line: 2 })
     );
     assert_eq!(rt; memory.is_on(), true);
-    assert_eq!(rt; memory.fence(), NO_FENCE);
+    assert_eq!(rt; memory.fence(), Err(NO_FENCE));
     assert_eq!(rt; memory.is_on(), false);
 }
 
@@ -61,6 +52,7 @@ fn powers_up_twice<M: Memory>(rt: &impl Abort, memory: &mut M) {
     assert_eq!(rt; memory.operations_left(), 2);
 }
 
+// Each kind in a test of its own, so that a failure names it.
 #[test]
 fn straight(rt: HostRuntime) {
     let mut bytes = [1; 128];
@@ -73,9 +65,9 @@ fn straight(rt: HostRuntime) {
 #[test]
 fn queued(rt: HostRuntime) {
     let mut bytes = [1; 128];
-    declines_while_off(&rt, &mut Queued::new(&mut bytes, 4294967295));
-    loses_power_at_a_fence(&rt, &mut Queued::new(&mut bytes, 4294967295));
-    powers_up_twice(&rt, &mut Queued::new(&mut bytes, 4294967295));
+    declines_while_off(&rt, &mut Queued::new(&mut bytes, u32::MAX));
+    loses_power_at_a_fence(&rt, &mut Queued::new(&mut bytes, u32::MAX));
+    powers_up_twice(&rt, &mut Queued::new(&mut bytes, u32::MAX));
     assert_eq!(rt; bytes[127], 7);
 }
 
@@ -85,7 +77,7 @@ fn straight_write_is_torn(rt: HostRuntime) {
     let mut bytes = [1; 192];
     let mut memory = Straight::new(&mut bytes);
     memory.power_up(0);
-    assert_eq!(rt; memory.write(1, &[7; 64]), NO_WRITE);
+    assert_eq!(rt; memory.write(1, &[7; 64]), Err(NO_WRITE));
     assert_eq!(rt; memory.operations_left(), 0);
     drop(memory);
     assert!(rt; bytes[0..64] == [1; 64]);
@@ -100,7 +92,7 @@ fn queued_write_is_not_entered(rt: HostRuntime) {
     let mut memory = Queued::new(&mut bytes, 1);
     memory.power_up(1);
     assert_eq!(rt; memory.write(0, &[7; 64]), Ok(()));
-    assert_eq!(rt; memory.write(1, &[8; 64]), NO_WRITE);
+    assert_eq!(rt; memory.write(1, &[8; 64]), Err(NO_WRITE));
     assert_eq!(rt; memory.is_on(), false);
     drop(memory);
     assert!(rt; bytes[0..64] == [7; 64]);

@@ -14,30 +14,20 @@ fn write_lines(memory: &mut Queued, first: u8, last: u8) -> Result<(), Fail> {
 // Each pair of bits at each of the sixteen places: 0 old, 1 new, 2 torn, 3 every byte 165.
 #[test]
 fn every_fate_at_every_place(rt: HostRuntime) -> Result<(), Fail> {
-    for fate in 0..4u32 {
-        for place in 0..16u32 {
+    for place in 0..16u32 {
+        let at = place as usize * 64;
+        let new = (place as u8).wrapping_add(100);
+        for (fate, front, back) in [(0u32, 0, 0), (1, new, new), (2, new, 0), (3, 165, 165)] {
             let mut bytes = [0; 1024];
             let mut memory = Queued::new(&mut bytes, fate << (2 * place));
             memory.power_up(100);
             write_lines(&mut memory, 0, 16)?;
             memory.cut();
             drop(memory);
-            let at = place as usize * 64;
-            let new = (place as u8).wrapping_add(100);
-            let front = match fate {
-                0 => 0,
-                3 => 165,
-                _ => new
-            };
-            let back = match fate {
-                1 => new,
-                3 => 165,
-                _ => 0
-            };
             assert!(rt; bytes[at..at + 32] == [front; 32]);
             assert!(rt; bytes[at + 32..at + 64] == [back; 32]);
-            assert!(rt; bytes[0..at].iter().copied().max().unwrap_or(0) == 0);
-            assert!(rt; bytes[at + 64..1024].iter().copied().max().unwrap_or(0) == 0);
+            assert!(rt; bytes[0..at].iter().all(|byte| *byte == 0));
+            assert!(rt; bytes[at + 64..1024].iter().all(|byte| *byte == 0));
         }
     }
     Ok(())
@@ -114,7 +104,7 @@ fn a_full_queue_renews_in_place(rt: HostRuntime) -> Result<(), Fail> {
 #[test]
 fn a_fence_moves_all(rt: HostRuntime) -> Result<(), Fail> {
     let mut bytes = [0; 1088];
-    let mut memory = Queued::new(&mut bytes, 4294967295);
+    let mut memory = Queued::new(&mut bytes, u32::MAX);
     memory.power_up(100);
     write_lines(&mut memory, 0, 16)?;
     memory.fence()?;

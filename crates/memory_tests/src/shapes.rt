@@ -1,5 +1,6 @@
 // How many lines there are, which of them exist, and what stands behind the last.
-use memory::{Memory, MemoryFault, Operation};
+use crate::common::NO_FENCE;
+use memory::{Memory, MemoryFault};
 use queued::Queued;
 use std::process::Abort;
 use std::test::Fail;
@@ -27,13 +28,7 @@ fn has_no_line<M: Memory>(rt: &impl Abort, memory: &mut M) {
     );
     assert_eq!(rt; memory.operations_left(), 1);
     assert_eq!(rt; memory.fence(), Ok(()));
-    assert_eq!(rt;
-        memory.fence(),
-        Err(MemoryFault::NoPower {
-            operation: Operation::Fence,
-            line: 65535,
-        })
-    );
+    assert_eq!(rt; memory.fence(), Err(NO_FENCE));
     assert_eq!(rt; memory.is_on(), false);
 }
 
@@ -41,10 +36,10 @@ fn has_no_line<M: Memory>(rt: &impl Abort, memory: &mut M) {
 fn no_lines(rt: HostRuntime) {
     let mut none = [];
     has_no_line(&rt, &mut Straight::new(&mut none));
-    has_no_line(&rt, &mut Queued::new(&mut none, 4294967295));
+    has_no_line(&rt, &mut Queued::new(&mut none, u32::MAX));
     let mut short = [9; 63];
     has_no_line(&rt, &mut Straight::new(&mut short));
-    has_no_line(&rt, &mut Queued::new(&mut short, 4294967295));
+    has_no_line(&rt, &mut Queued::new(&mut short, u32::MAX));
     assert_eq!(rt; short, [9; 63]);
 }
 
@@ -64,7 +59,7 @@ fn a_rest_of_63_bytes(rt: HostRuntime) -> Result<(), Fail> {
     let mut bytes = [9; 127];
     keeps_line_0(&rt, &mut Straight::new(&mut bytes))?;
     assert!(rt; bytes[64..127] == [9; 63]);
-    keeps_line_0(&rt, &mut Queued::new(&mut bytes, 4294967295))?;
+    keeps_line_0(&rt, &mut Queued::new(&mut bytes, u32::MAX))?;
     assert!(rt; bytes[64..127] == [9; 63]);
     assert_eq!(rt; Straight::new(&mut bytes).line_count(), 1);
     assert_eq!(rt;

@@ -1,4 +1,5 @@
-// The numbers and words of faults.
+// The numbers, lines and words of faults.
+use crate::common::NO_FENCE;
 use memory::{MemoryFault, Operation};
 use std::test::Fail;
 
@@ -6,17 +7,17 @@ use std::test::Fail;
 fn faults_in_words(rt: HostRuntime) -> Result<(), Fail> {
     let missing = MemoryFault::NoSuchLine { line: 70 };
     let write = MemoryFault::NoPower {
-        operation: Operation::Write,
-        line: 3,
+        operation: Operation::Write { line: 3 },
     };
-    let fence = MemoryFault::NoPower {
-        operation: Operation::Fence,
-        line: 65535,
-    };
+    let fence = NO_FENCE;
     let read = MemoryFault::Unreadable { line: 5 };
     assert_eq!(rt; missing.number(), 1);
     assert_eq!(rt; write.number(), 2);
     assert_eq!(rt; read.number(), 2);
+    assert_eq!(rt; missing.line(), 70);
+    assert_eq!(rt; write.line(), 3);
+    assert_eq!(rt; fence.line(), 65535);
+    assert_eq!(rt; read.line(), 5);
     let heap = rt.alloc();
     assert!(rt; format!(in heap; "{missing}")?.as_str() == "M1 no such line: line 70");
     assert!(rt; format!(in heap; "{write}")?.as_str() == "M2 no power: write of line 3");

@@ -1,4 +1,4 @@
 pub mod Entries
-pub mod Moves
 pub mod Overlaid
+pub mod Moves
 pub mod Meant

@@ -1,116 +1,97 @@
 -- What the calls of queued memory do to what its parts mean.
-use Rattle.std.proofs.Common.{◌≡◌, ℕ, zero, suc, ◌-◌, ◌/◌, ◌<◌, ◌≤◌, Bool, true, false, cond, not, eqb, ltb, ◌≢◌, ◌⊎◌, List, [], ◌∷◌, ◌++◌, map, length, get_or, take, drop, set, Some, None, Ok, Err, Result, unwrap_or, sym, refl, ap, ◌∙◌, inl, inr, arith, length-drop, length-take, ltb-false, ltb-true, ne_eqb}
+use Rattle.std.proofs.Common.{◌≡◌, ℕ, ◌-◌, ◌/◌, ◌<◌, ◌≤◌, Bool, true, false, cond, not, eqb, ◌≢◌, ◌⊎◌, List, [], ◌∷◌, ◌++◌, map, length, get_or, take, drop, set, Some, None, Option, is_some, ok_or, Ok, Err, Result, unwrap_or, sym, refl, ap, ◌∙◌, inl, inr, arith, ne_eqb}
 use Rattle.std.specs.List.{AllByRecursion as All}
+use Rattle.std.specs.Option.{option_map, option_map_or, option_to_list}
 use Rattle.std.proofs.ByRecursion.{All-take}
-use Rattle.std.proofs.lemmas.List.{get_or-set_same, get_or-set_other, get_or_past, nil_from_length}
-use Rattle.std.proofs.lemmas.Bool.{cases_eq, cases_lt}
-use Rattle.lines.specs.Lines.{Line, count_of, line_at, lines_of, rest_of, counted, with_line}
-use Rattle.lines.proofs.Rows.{counted_length, counted_at, lines_length, lines_whole, line_at_lem, line_none, line_some}
+use Rattle.std.proofs.lemmas.List.{get_or_past}
+use Rattle.std.proofs.lemmas.List.Folds.{list_any-append}
+use Rattle.std.proofs.lemmas.List.FromFn.{length-map-range_with_len}
+use Rattle.std.proofs.lemmas.Bool.{cases_lt, not-true}
+use Rattle.lines.specs.Lines.{Line, count_of, line_of, line_at, lines_of, rest_of, counted, with_line}
+use Rattle.lines.proofs.Rows.{counted_at, lines_length, lines_whole, line_at_lem, line_err, line_ok}
 use Rattle.memory.specs.declared.fault.MemoryFault.{MemoryFault}
 use Rattle.memory.specs.declared.fault.MemoryFault.TheVariants.{NoSuchLine, NoPower, Unreadable}
 use Rattle.memory.specs.declared.fault.Operation.TheVariants.{Write, Fence}
-use Rattle.memory.specs.declared.power.Power.{Power}
-use Rattle.memory.specs.declared.power.Power.TheVariants.{Off, On}
-use Rattle.memory.specs.Power.{is_on, left_in, suffices, spent}
-use Rattle.memory.specs.Meaning.{content_at, Sound, Cut, Cuts, Reads, Writes, Fences}
-use Rattle.memory.proofs.Ways.{sound_kind, read_missing, read_dark, read_done, write_missing, write_dark, write_lost, write_done, fence_dark, fence_lost, fence_done, cut_dark, cut_done}
+use Rattle.memory.specs.Power.{on, is_on, left_in, suffices, spent}
+use Rattle.memory.specs.Meaning.{content_at, Cut, Cuts, Reads, Writes, Fences}
+use Rattle.memory.proofs.Ways.{read_missing, read_dark, read_done, write_missing, write_dark, write_lost, write_done, by_power, loosened_other, fence_dark, fence_lost, fence_done, cut_dark, cut_done}
 use Rattle.queued.specs.declared.slot.Slot.{Slot}
+use Rattle.queued.specs.declared.running.Running.{Running}
 use Rattle.queued.specs.declared.Queued.{Queued}
-use Rattle.queued.specs.Slots.{slot, is_queued, distinct, newest, renewed}
-use Rattle.queued.specs.Below.{overlaid, moved, cut_down}
-use Rattle.queued.specs.Queued.{Parts, parts_of, meaning_in, meant, darkened, renewing, roomy, entering, entered, drained, after_write, after_fence, after_cut}
-use Rattle.queued.proofs.Entries.{Full, or_left, or_right, all_of_whole, queued-++, queued_renewed}
-use Rattle.queued.proofs.Overlaid.{overlaid_none, overlaid_length, overlaid_whole, overlaid_other, overlaid_newest, moved_length, moved_lines, moved_rest, cut_length, cut_rest, cut_other, overlaid_renewed, overlaid_entered}
+use Rattle.queued.specs.Slots.{slot, is_queued, newest, renewed}
+use Rattle.queued.specs.Queue.{entries_in}
+use Rattle.queued.specs.Below.{moved, cut_down}
+use Rattle.queued.specs.Queued.{Parts, parts_of, meaning_in, meant, stopped, darkened, renewing, entering, entered, drained, operated, after_fence, after_cut}
+use Rattle.queued.specs.Sound.{Full, overlaid_length, overlaid_whole, none_marked}
+use Rattle.queued.proofs.Entries.{queued_drop, queued_renewed}
+use Rattle.queued.proofs.Overlaid.{overlaid_none, overlaid_other, overlaid_newest, moved_length, moved_lines, cut_length, cut_rest, cut_other, overlaid_renewed, overlaid_entered}
 
 -- which of the first n lines are durable
 abbrev marks : List Slot → ℕ → List Bool
-marks es n = counted (λ l. not (is_queued es l)) 0 n
-
-not_true : (b : Bool) → not b ≡ true → b ≡ false
-not_true true e = absurd (grind arith)
-not_true false e = refl
+marks es n = counted (λ l. not (is_queued es l)) n
 
 -- a durable line is not queued, and a line that is not queued is durable
 marked_out : (es : List Slot) (n k : ℕ) → k < n → get_or (marks es n) k true ≡ true → is_queued es k ≡ false
-marked_out es n k h e = not_true (is_queued es k) (sym (counted_at (λ l. not (is_queued es l)) n k true h) ∙ e)
+marked_out es n k h e = not-true (is_queued es k) (sym (counted_at (λ l. not (is_queued es l)) n k true h) ∙ e)
 
 marked_in : (es : List Slot) (n k : ℕ) → (k < n → is_queued es k ≡ false) → get_or (marks es n) k true ≡ true
 marked_in es n k out = go (cases_lt k n)
   where
     go : (k < n) ⊎ (n ≤ k) → get_or (marks es n) k true ≡ true
     go (inl h) = counted_at (λ l. not (is_queued es l)) n k true h ∙ ap not (out h)
-    go (inr h) = get_or_past (marks es n) k true (omega (arith, counted_length (λ l. not (is_queued es l)) 0 n))
+    go (inr h) = get_or_past (marks es n) k true (omega (arith, length-map-range_with_len (λ l. not (is_queued es l)) 0 n))
 
 -- from one queue to another under which fewer lines wait, but for line l
 marked_on : (es fs : List Slot) (n l : ℕ) → ((k : ℕ) → k ≢ l → is_queued es k ≡ false → is_queued fs k ≡ false) → (k : ℕ) → (k ≡ l → ⊥) → get_or (marks es n) k true ≡ true → get_or (marks fs n) k true ≡ true
 marked_on es fs n l fewer k o e = marked_in fs n k (λ h. fewer k o (marked_out es n k h e))
-
-none_marked : (n k : ℕ) → get_or (marks [] n) k true ≡ true
-none_marked n k = marked_in [] n k (λ _. refl)
-
--- at every moment
-pub full_of : (q : Queued) → All Full (parts_of q).queue
-full_of q = All-take Full q.volatile.queue.len q.volatile.queue.slots (all_of_whole q.volatile.queue.slots q.volatile.queue.whole)
-
-sound_parts : (s : Parts) → All Full s.queue → (is_on s.power ≡ false → length s.queue ≡ 0) → Sound (meaning_in s)
-sound_parts s full idle =
-    sound_kind (overlaid (lines_of s.bytes) s.queue) (marks s.queue (count_of s.bytes)) s.power
-    (counted_length (λ l. not (is_queued s.queue l)) 0 (count_of s.bytes) ∙ sym (overlaid_length (lines_of s.bytes) s.queue ∙ lines_length s.bytes))
-    (overlaid_whole (lines_of s.bytes) s.queue full (lines_whole s.bytes))
-    (λ o l. rw (nil_from_length s.queue (idle o)) (none_marked (count_of s.bytes) l))
-
-pub sound_of : (q : Queued) → Sound (meant q)
-sound_of q = sound_parts (parts_of q) (full_of q) q.volatile.idle
 
 pub count_of_lem : (s : Parts) → length (meaning_in s).lines ≡ count_of s.bytes
 count_of_lem s = overlaid_length (lines_of s.bytes) s.queue ∙ lines_length s.bytes
 
 -- a read: no such line, no power, or the newest entry, else what lies below
 module _ (s : Parts) (l : ℕ) where
-  pub read_none : line_at s.bytes l ≡ None → Reads (meaning_in s) l (Err (NoSuchLine l))
-  read_none e =
-      read_missing (meaning_in s).lines (meaning_in s).durable s.power l (omega (arith, line_none s.bytes l e, lines_length s.bytes, count_of_lem s))
+  pub read_none : (f : MemoryFault) → ok_or (line_at s.bytes l) (NoSuchLine l) ≡ Err f → Reads (meaning_in s) l (Err f)
+  read_none f e =
+      let missing = line_err s.bytes l (NoSuchLine l) f e in
+      rw missing.1 (read_missing (meaning_in s).lines (meaning_in s).durable s.power l (omega (arith, missing.0, lines_length s.bytes, count_of_lem s)))
 
-  module _ (x : Line) (e : line_at s.bytes l ≡ Some x) where
+  module _ (x : Line) (e : ok_or (line_at s.bytes l) (NoSuchLine l) ≡ Ok x) where
+    there : (l < count_of s.bytes) × (x ≡ line_of s.bytes l)
+    there = line_ok s.bytes l (NoSuchLine l) x e
+
     pub read_off : is_on s.power ≡ false → Reads (meaning_in s) l (Err (Unreadable l))
     read_off o =
-        read_dark (meaning_in s).lines (meaning_in s).durable s.power l (omega (arith, (line_some s.bytes l x e).0, count_of_lem s)) o
+        read_dark (meaning_in s).lines (meaning_in s).durable s.power l (omega (arith, there.0, count_of_lem s)) o
 
-    pub read_on : (y : Line) → is_on s.power ≡ true → y ≡ unwrap_or (newest None s.queue l) x → Reads (meaning_in s) l (Ok y)
+    read_on : (y : Line) → is_on s.power ≡ true → y ≡ unwrap_or (newest s.queue l) x → Reads (meaning_in s) l (Ok y)
     read_on y o is =
-        let low : l < count_of s.bytes = (line_some s.bytes l x e).0 in
-        let below : get_or (lines_of s.bytes) l [] ≡ x = line_at_lem s.bytes l [] low ∙ sym (line_some s.bytes l x e).1 in
-        read_done (meaning_in s).lines (meaning_in s).durable s.power l y (omega (arith, count_of_lem s)) o
-        (is ∙ (ap (unwrap_or (newest None s.queue l)) (sym below) ∙ sym (overlaid_newest (lines_of s.bytes) s.queue l (omega (arith, lines_length s.bytes)))))
+        let below : get_or (lines_of s.bytes) l [] ≡ x = line_at_lem s.bytes l [] there.0 ∙ sym there.1 in
+        read_done (meaning_in s).lines (meaning_in s).durable s.power l y (omega (arith, there.0, count_of_lem s)) o
+        (is ∙ (ap (unwrap_or (newest s.queue l)) (sym below) ∙ sym (overlaid_newest (lines_of s.bytes) s.queue l (omega (arith, there.0, lines_length s.bytes)))))
 
 -- a queued line is not durable, nor is the line at whose write power goes; the cut keeps all others
-cut_parts : (choice : ℕ) (s : Parts) (ds : List Bool) → All Full s.queue → ((k : ℕ) → k < count_of s.bytes → get_or ds k true ≡ true → is_queued s.queue k ≡ false) → Cut (record { lines = (meaning_in s).lines; durable = ds; on = is_on s.power; left = left_in s.power }) (meaning_in (darkened choice s))
-cut_parts choice s ds full out =
-    let same : length (cut_down choice 0 s.bytes s.queue) ≡ length s.bytes = cut_length choice 0 s.bytes s.queue full in
-    let count : length (meaning_in (darkened choice s)).lines ≡ length (meaning_in s).lines = count_of_lem (darkened choice s) ∙ (ap (λ (n : ℕ). n / 64) same ∙ sym (count_of_lem s)) in
+cut_parts : (s : Parts) (ds : List Bool) → All Full s.queue → ((k : ℕ) → k < count_of s.bytes → get_or ds k true ≡ true → is_queued s.queue k ≡ false) → Cut (record { lines = (meaning_in s).lines; durable = ds; on = is_on s.power; left = left_in s.power }) (meaning_in (darkened s))
+cut_parts s ds full out =
+    let same : length (cut_down s.choice 0 s.bytes s.queue) ≡ length s.bytes = cut_length s.choice 0 s.bytes s.queue full in
+    let count : length (meaning_in (darkened s)).lines ≡ length (meaning_in s).lines = count_of_lem (darkened s) ∙ (ap (λ (n : ℕ). n / 64) same ∙ sym (count_of_lem s)) in
     record {
       count = count;
       kept = λ k d. kept k d (cases_lt k (count_of s.bytes));
-      whole = λ k h. overlaid_whole (lines_of (cut_down choice 0 s.bytes s.queue)) [] tt (lines_whole (cut_down choice 0 s.bytes s.queue)) k (omega arith);
-      safe = none_marked (count_of (cut_down choice 0 s.bytes s.queue));
+      whole = λ k h. overlaid_whole (lines_of (cut_down s.choice 0 s.bytes s.queue)) [] tt (lines_whole (cut_down s.choice 0 s.bytes s.queue)) k (omega arith);
+      safe = none_marked (count_of (cut_down s.choice 0 s.bytes s.queue));
       off = refl;
       none = refl;
     }
   where
-    kept : (k : ℕ) → get_or ds k true ≡ true → (k < count_of s.bytes) ⊎ (count_of s.bytes ≤ k) → content_at (meaning_in (darkened choice s)) k ≡ content_at (meaning_in s) k
+    kept : (k : ℕ) → get_or ds k true ≡ true → (k < count_of s.bytes) ⊎ (count_of s.bytes ≤ k) → content_at (meaning_in (darkened s)) k ≡ content_at (meaning_in s) k
     kept k d (inl h) =
-        overlaid_other (lines_of (cut_down choice 0 s.bytes s.queue)) [] k refl
-        ∙ (cut_other choice 0 s.bytes s.queue k full (out k h d) ∙ sym (overlaid_other (lines_of s.bytes) s.queue k (out k h d)))
+        overlaid_other (lines_of (cut_down s.choice 0 s.bytes s.queue)) [] k refl
+        ∙ (cut_other s.choice 0 s.bytes s.queue k full (out k h d) ∙ sym (overlaid_other (lines_of s.bytes) s.queue k (out k h d)))
     kept k d (inr h) =
-        let long : length (cut_down choice 0 s.bytes s.queue) ≡ length s.bytes = cut_length choice 0 s.bytes s.queue full in
-        let past : length (meaning_in (darkened choice s)).lines ≤ k = omega (arith, count_of_lem (darkened choice s), ap (λ (n : ℕ). n / 64) long) in
-        get_or_past (meaning_in (darkened choice s)).lines k [] past
+        let long : length (cut_down s.choice 0 s.bytes s.queue) ≡ length s.bytes = cut_length s.choice 0 s.bytes s.queue full in
+        let past : length (meaning_in (darkened s)).lines ≤ k = omega (arith, count_of_lem (darkened s), ap (λ (n : ℕ). n / 64) long) in
+        get_or_past (meaning_in (darkened s)).lines k [] past
         ∙ sym (get_or_past (meaning_in s).lines k [] (omega (arith, count_of_lem s)))
-
-queued_drop : (n : ℕ) (es : List Slot) (k : ℕ) → is_queued es k ≡ false → is_queued (drop n es) k ≡ false
-queued_drop zero es k e = e
-queued_drop (suc n) [] k e = refl
-queued_drop (suc n) (f ∷ es) k e = queued_drop n es k (or_right (eqb f.line k) (is_queued es k) e)
 
 -- after the write of line l no other line waits that did not wait before
 fewer_renewed : (l : ℕ) (c : Line) (es : List Slot) (k : ℕ) → k ≢ l → is_queued es k ≡ false → is_queued (map (renewed l c) es) k ≡ false
@@ -118,38 +99,30 @@ fewer_renewed l c es k o e = queued_renewed l c es k ∙ e
 
 fewer_entered : (l : ℕ) (c : Line) (es : List Slot) (n k : ℕ) → k ≢ l → is_queued es k ≡ false → is_queued (drop n es ++ (slot l c ∷ [])) k ≡ false
 fewer_entered l c es n k o e =
-    queued-++ (drop n es) (slot l c ∷ []) k
+    list_any-append (λ e. eqb e.line k) (drop n es) (slot l c ∷ [])
     ∙ rw (queued_drop n es k e, ne_eqb l k (λ q. o (sym q))) refl
 
 -- power after an operation that completes
-abbrev pub paid : Parts → Parts
-paid s = record { bytes = s.bytes; queue = s.queue; power = spent s.power }
+abbrev paid : Parts → Parts
+paid s = record s { power = spent s.power }
 
-module _ (s : Parts) (full : All Full s.queue) (l : ℕ) (c : Line) (there : ltb l (count_of s.bytes) ≡ true) where
+-- a write to a line that is there
+module _ (s : Parts) (full : All Full s.queue) (l : ℕ) (c : Line) (there : l < count_of s.bytes) where
   low : l < length (meaning_in s).lines
-  low = omega (arith, ltb-true l (count_of s.bytes) there, count_of_lem s)
-
-  pub write_off : is_on s.power ≡ false → Writes (meaning_in s) l c (Err (NoPower Write l)) (meaning_in s)
-  write_off o = write_dark (meaning_in s).lines (meaning_in s).durable s.power l c o low
+  low = omega (arith, count_of_lem s)
 
   loosened_out : (k : ℕ) → k < count_of s.bytes → get_or (set (meaning_in s).durable l false) k true ≡ true → is_queued s.queue k ≡ false
-  loosened_out k h d = go (cases_eq k l)
-    where
-      go : (k ≡ l) ⊎ (k ≢ l) → is_queued s.queue k ≡ false
-      go (inl q) =
-          let long : length (meaning_in s).durable ≡ count_of s.bytes = counted_length (λ j. not (is_queued s.queue j)) 0 (count_of s.bytes) in
-          let loose : get_or (set (meaning_in s).durable l false) l true ≡ false = get_or-set_same (meaning_in s).durable l false true (omega arith) in
-          let same : get_or (set (meaning_in s).durable l false) k true ≡ false = rw q loose in
-          absurd (grind arith)
-      go (inr n) = marked_out s.queue (count_of s.bytes) k h (sym (get_or-set_other (meaning_in s).durable l k false true n) ∙ d)
+  loosened_out k h d =
+      let long : length (meaning_in s).durable ≡ count_of s.bytes = length-map-range_with_len (λ j. not (is_queued s.queue j)) 0 (count_of s.bytes) in
+      marked_out s.queue (count_of s.bytes) k h (loosened_other (meaning_in s).durable l k (omega arith) d).1
 
-  pub write_goes : (choice : ℕ) → is_on s.power ≡ true → suffices s.power ≡ false → Writes (meaning_in s) l c (Err (NoPower Write l)) (meaning_in (darkened choice s))
-  write_goes choice o n =
-      write_lost (meaning_in s).lines (meaning_in (darkened choice s)).lines (meaning_in s).durable (meaning_in (darkened choice s)).durable s.power l c o n low
-      (cut_parts choice s (set (meaning_in s).durable l false) full loosened_out)
+  goes_write : is_on s.power ≡ true → suffices s.power ≡ false → Writes (meaning_in s) l c (Err (NoPower (Write l))) (meaning_in (darkened s))
+  goes_write o n =
+      write_lost (meaning_in s).lines (meaning_in (darkened s)).lines (meaning_in s).durable (meaning_in (darkened s)).durable s.power l c o n low
+      (cut_parts s (set (meaning_in s).durable l false) full loosened_out)
 
-  pub write_on : suffices s.power ≡ true → Writes (meaning_in s) l c (Ok tt) (meaning_in (entered l c (paid s)))
-  write_on o = go (is_queued s.queue l) refl
+  on_write : suffices s.power ≡ true → Writes (meaning_in s) l c (Ok tt) (meaning_in (entered l c (paid s)))
+  on_write o = go (is_queued s.queue l) refl
     where
       go : (b : Bool) → is_queued s.queue l ≡ b → Writes (meaning_in s) l c (Ok tt) (meaning_in (cond b (renewing l c (paid s)) (entering l c (paid s))))
       go true q =
@@ -163,141 +136,106 @@ module _ (s : Parts) (full : All Full s.queue) (l : ℕ) (c : Line) (there : ltb
           (overlaid_entered s.bytes s.queue n l c full)
           (λ k p d. rw long (marked_on s.queue (drop n s.queue ++ (slot l c ∷ [])) (count_of s.bytes) l (fewer_entered l c s.queue n) k p d))
 
-  pub rest_entered : rest_of (entered l c (paid s)).bytes ≡ rest_of s.bytes
-  rest_entered = go (is_queued s.queue l)
+  writes_in : Writes (meaning_in s) l c (cond (suffices s.power) (Ok tt) (Err (NoPower (Write l)))) (meaning_in (operated (entered l c) s))
+  writes_in =
+      by_power s.power (λ o n. Writes (meaning_in s) l c (cond n (Ok tt) (Err (NoPower (Write l)))) (meaning_in (cond o (cond n (entered l c (paid s)) (darkened s)) s)))
+      on_write goes_write (λ o. write_dark (meaning_in s).lines (meaning_in s).durable s.power l c o low)
+
+module _ (s : Parts) (l : ℕ) (c : Line) where
+  pub write_none : (f : MemoryFault) → ok_or (line_at s.bytes l) (NoSuchLine l) ≡ Err f → Writes (meaning_in s) l c (Err f) (meaning_in s)
+  write_none f e =
+      let missing = line_err s.bytes l (NoSuchLine l) f e in
+      rw missing.1 (write_missing (meaning_in s).lines (meaning_in s).durable s.power l c (omega (arith, missing.0, lines_length s.bytes, count_of_lem s)))
+
+  pub wrote_in : All Full s.queue → (x : Line) → ok_or (line_at s.bytes l) (NoSuchLine l) ≡ Ok x → (r : Result Unit MemoryFault) (s' : Parts) → r ≡ cond (suffices s.power) (Ok tt) (Err (NoPower (Write l))) → s' ≡ operated (entered l c) s → Writes (meaning_in s) l c r (meaning_in s')
+  wrote_in full x e r s' a b = rw (a, b) (writes_in s full l c (line_ok s.bytes l (NoSuchLine l) x e).0)
+
+-- a cut and a fence
+module _ (s : Parts) (full : All Full s.queue) where
+  cut_here : Cut (meaning_in s) (meaning_in (darkened s))
+  cut_here = cut_parts s (meaning_in s).durable full (λ k h d. marked_out s.queue (count_of s.bytes) k h d)
+
+  cuts_in : Cuts (meaning_in s) (meaning_in (after_cut s))
+  cuts_in = go (is_on s.power) refl
     where
-      go : (b : Bool) → rest_of (cond b (renewing l c (paid s)) (entering l c (paid s))).bytes ≡ rest_of s.bytes
-      go true = refl
-      go false = moved_rest s.bytes (take (length s.queue - 15) s.queue) (All-take Full (length s.queue - 15) s.queue full)
+      go : (o : Bool) → is_on s.power ≡ o → Cuts (meaning_in s) (meaning_in (cond o (darkened s) s))
+      go true o =
+          cut_done (meaning_in s).lines (meaning_in (darkened s)).lines (meaning_in s).durable (meaning_in (darkened s)).durable s.power o cut_here
+      go false o = cut_dark (meaning_in s).lines (meaning_in s).durable s.power o
 
-pub write_none : (s : Parts) (l : ℕ) (c : Line) → ltb l (count_of s.bytes) ≡ false → Writes (meaning_in s) l c (Err (NoSuchLine l)) (meaning_in s)
-write_none s l c e =
-    write_missing (meaning_in s).lines (meaning_in s).durable s.power l c (omega (arith, ltb-false l (count_of s.bytes) e, count_of_lem s))
-
-module _ (choice : ℕ) (s : Parts) (full : All Full s.queue) where
-  cut_here : Cut (meaning_in s) (meaning_in (darkened choice s))
-  cut_here = cut_parts choice s (meaning_in s).durable full (λ k h d. marked_out s.queue (count_of s.bytes) k h d)
-
-  pub cut_off : is_on s.power ≡ false → Cuts (meaning_in s) (meaning_in s)
-  cut_off o = cut_dark (meaning_in s).lines (meaning_in s).durable s.power o
-
-  pub cut_on : is_on s.power ≡ true → Cuts (meaning_in s) (meaning_in (darkened choice s))
-  cut_on o =
-      cut_done (meaning_in s).lines (meaning_in (darkened choice s)).lines (meaning_in s).durable (meaning_in (darkened choice s)).durable s.power o cut_here
-
-  pub fence_off : is_on s.power ≡ false → Fences (meaning_in s) (Err (NoPower Fence 65535)) (meaning_in s)
-  fence_off o = fence_dark (meaning_in s).lines (meaning_in s).durable s.power o
-
-  pub fence_goes : is_on s.power ≡ true → suffices s.power ≡ false → Fences (meaning_in s) (Err (NoPower Fence 65535)) (meaning_in (darkened choice s))
-  fence_goes o n =
-      fence_lost (meaning_in s).lines (meaning_in (darkened choice s)).lines (meaning_in s).durable (meaning_in (darkened choice s)).durable s.power o n cut_here
-
-  pub fence_on : suffices s.power ≡ true → Fences (meaning_in s) (Ok tt) (meaning_in (drained (paid s)))
-  fence_on o =
-      fence_done (meaning_in s).lines (meaning_in (drained (paid s))).lines (meaning_in s).durable (meaning_in (drained (paid s))).durable s.power o
+  fences_in : Fences (meaning_in s) (cond (suffices s.power) (Ok tt) (Err (NoPower Fence))) (meaning_in (after_fence s))
+  fences_in =
+      by_power s.power (λ o n. Fences (meaning_in s) (cond n (Ok tt) (Err (NoPower Fence))) (meaning_in (cond o (cond n (drained (paid s)) (darkened s)) s)))
+      (λ n. fence_done (meaning_in s).lines (meaning_in (drained (paid s))).lines (meaning_in s).durable (meaning_in (drained (paid s))).durable s.power n
       (overlaid_none (lines_of (moved s.bytes s.queue)) ∙ moved_lines s.bytes s.queue full)
-      (none_marked (count_of (moved s.bytes s.queue)))
+      (none_marked (count_of (moved s.bytes s.queue))))
+      (λ o n. fence_lost (meaning_in s).lines (meaning_in (darkened s)).lines (meaning_in s).durable (meaning_in (darkened s)).durable s.power o n cut_here)
+      (λ o. fence_dark (meaning_in s).lines (meaning_in s).durable s.power o)
 
-  pub rest_darkened : rest_of (darkened choice s).bytes ≡ rest_of s.bytes
-  rest_darkened = cut_rest choice 0 s.bytes s.queue full
+  pub fenced_in : (r : Result Unit MemoryFault) (s' : Parts) → r ≡ cond (suffices s.power) (Ok tt) (Err (NoPower Fence)) → s' ≡ after_fence s → Fences (meaning_in s) r (meaning_in s')
+  fenced_in r s' a b = rw (a, b) fences_in
 
-  pub rest_drained : rest_of (drained (paid s)).bytes ≡ rest_of s.bytes
-  rest_drained = moved_rest s.bytes s.queue full
+  pub cut_in : (s' : Parts) → s' ≡ after_cut s → Cuts (meaning_in s) (meaning_in s')
+  cut_in s' e = rw e cuts_in
 
--- parts that are alike one by one
-pub alike : (bs bs' : List ℕ) (fs fs' : List Slot) (p p' : Power) → bs ≡ bs' → fs ≡ fs' → p ≡ p' → ◌≡◌ {A = Parts} (record { bytes = bs; queue = fs; power = p }) (record { bytes = bs'; queue = fs'; power = p' })
-alike bs bs' fs fs' p p' a b e = rw (a, b, e) refl
+  rest_cut : rest_of (after_cut s).bytes ≡ rest_of s.bytes
+  rest_cut = go (is_on s.power)
+    where
+      go : (o : Bool) → rest_of (cond o (darkened s) s).bytes ≡ rest_of s.bytes
+      go true = cut_rest s.choice 0 s.bytes s.queue full
+      go false = refl
 
--- the parts after the power supply was asked for an operation
-pub asked_paid : (s : Parts) (fs : List Slot) (p : Power) → suffices s.power ≡ true → fs ≡ s.queue → p ≡ cond (suffices s.power) (spent s.power) s.power → ◌≡◌ {A = Parts} (record { bytes = s.bytes; queue = fs; power = p }) (paid s)
-asked_paid s fs p o a b = alike s.bytes s.bytes fs s.queue p (spent s.power) refl a (b ∙ rw o refl)
+  pub cut_keeps : (s' : Parts) → s' ≡ after_cut s → rest_of s'.bytes ≡ rest_of s.bytes
+  cut_keeps s' e = rw e rest_cut
 
-pub asked_none : (s : Parts) (fs : List Slot) (p : Power) → suffices s.power ≡ false → fs ≡ s.queue → p ≡ cond (suffices s.power) (spent s.power) s.power → ◌≡◌ {A = Parts} (record { bytes = s.bytes; queue = fs; power = p }) s
-asked_none s fs p o a b = alike s.bytes s.bytes fs s.queue p s.power refl a (b ∙ rw o refl)
+-- what a missing value is answered by
+pub fault_of : {X : Type 0} (o : Option X) (d f : MemoryFault) → Err f ≡ ok_or o d → f ≡ d
+fault_of None d f e = cc
+fault_of (Some x) d f e = absurd (cc)
 
-suffices_on : (p : Power) → suffices p ≡ true → is_on p ≡ true
-suffices_on Off e = absurd (grind arith)
-suffices_on (On n) e = refl
+-- the calls' steps, from the fields of a memory
+module _ (q : Queued) where
+  pub read_by : (r : Running) (l : ℕ) (x y : Line) (o : Option Line) → q.running ≡ Some r → ok_or (line_at q.bytes.now l) (NoSuchLine l) ≡ Ok x → o ≡ newest (entries_in r.queue) l → y ≡ unwrap_or o x → Reads (meant q) l (Ok y)
+  read_by r l x y o is e found given = read_on (parts_of q) l x e y (rw is refl) (rw is (given ∙ ap (λ p. unwrap_or p x) found))
 
--- what a write promises of the parts before and after
-pub record WritesParts (choice : ℕ) (s : Parts) (l : ℕ) (c : Line) (r : Result Unit MemoryFault) (s' : Parts) : Type 0 where
-  pub did : Writes (meaning_in s) l c r (meaning_in s')
-  pub parts : s' ≡ after_write choice l c s
-  pub rest : rest_of s'.bytes ≡ rest_of s.bytes
+  pub dark_from : is_some q.running ≡ false → is_on (parts_of q).power ≡ false
+  dark_from = go q.running
+    where
+      go : (o : Option Running) → is_some o ≡ false → is_some (option_map (λ r. r.left) o) ≡ false
+      go None e = refl
+      go (Some r) e = absurd (grind arith)
 
-module _ (choice : ℕ) (s : Parts) (full : All Full s.queue) (l : ℕ) (c : Line) where
-  pub writes_none : ltb l (count_of s.bytes) ≡ false → WritesParts choice s l c (Err (NoSuchLine l)) s
-  writes_none e = record { did = write_none s l c e; parts = rw e refl; rest = refl }
+  pub undrained : q.running ≡ None → parts_of q ≡ drained (parts_of q)
+  unfolding moved
+  undrained e = rw e refl
 
-  pub writes_off : ltb l (count_of s.bytes) ≡ true → is_on s.power ≡ false → WritesParts choice s l c (Err (NoPower Write l)) s
-  writes_off e o = record { did = write_off s full l c e o; parts = rw (e, o) refl; rest = refl }
+  pub cut_by : (s : Parts) (bs : List ℕ) (es : List Slot) → s ≡ stopped (parts_of q) → es ≡ (parts_of q).queue → bs ≡ cut_down s.choice 0 s.bytes es → record s { bytes = bs } ≡ after_cut (parts_of q)
+  unfolding cut_down
+  cut_by s bs es a b e = rw (e, b, a) (go q.running)
+    where
+      at : Option Running → Parts
+      at o = record { bytes = q.bytes.now; choice = q.choice; queue = option_map_or (λ r. entries_in r.queue) o []; power = record { left = option_map (λ r. r.left) o } }
 
-  pub writes_goes : (s' : Parts) → ltb l (count_of s.bytes) ≡ true → is_on s.power ≡ true → suffices s.power ≡ false → s' ≡ darkened choice s → WritesParts choice s l c (Err (NoPower Write l)) s'
-  writes_goes s' e o n q = rw q record { did = write_goes s full l c e choice o n; parts = rw (e, o, n) refl; rest = rest_darkened choice s full }
+      go : (o : Option Running) → darkened (at o) ≡ after_cut (at o)
+      go None = refl
+      go (Some r) = refl
 
-  pub writes_on : (s' : Parts) → ltb l (count_of s.bytes) ≡ true → suffices s.power ≡ true → s' ≡ entered l c (paid s) → WritesParts choice s l c (Ok tt) s'
-  writes_on s' e o q =
-      rw q record { did = write_on s full l c e o; parts = rw (e, suffices_on s.power o, o) refl; rest = rest_entered s full l c e }
+  -- the queue takes a write, and what comes out moves down
+  pub take_parts : (r : Running) (l : ℕ) (c : Line) (hs : List Slot) (o : Option Slot) (bs : List ℕ) → q.running ≡ Some r → option_to_list o ≡ cond (is_queued (entries_in r.queue) l) [] (take (length (entries_in r.queue) - 15) (entries_in r.queue)) → hs ≡ cond (is_queued (entries_in r.queue) l) (map (renewed l c) (entries_in r.queue)) (drop (length (entries_in r.queue) - 15) (entries_in r.queue) ++ (slot l c ∷ [])) → bs ≡ moved q.bytes.now (option_to_list o) → ◌≡◌ {A = Parts} (record { bytes = bs; choice = q.choice; queue = hs; power = on r.left }) (entered l c (parts_of q))
+  unfolding moved
+  take_parts r l c hs o bs is out after b = rw (is, after, b, out) (go (is_queued (entries_in r.queue) l))
+    where
+      at : Parts
+      at = record { bytes = q.bytes.now; choice = q.choice; queue = entries_in r.queue; power = on r.left }
 
--- what a fence promises
-pub record FencesParts (choice : ℕ) (s : Parts) (r : Result Unit MemoryFault) (s' : Parts) : Type 0 where
-  pub did : Fences (meaning_in s) r (meaning_in s')
-  pub parts : s' ≡ after_fence choice s
-  pub rest : rest_of s'.bytes ≡ rest_of s.bytes
+      go : (b : Bool) → ◌≡◌ {A = Parts} (record { bytes = moved q.bytes.now (cond b [] (take (length (entries_in r.queue) - 15) (entries_in r.queue))); choice = q.choice; queue = cond b (map (renewed l c) (entries_in r.queue)) (drop (length (entries_in r.queue) - 15) (entries_in r.queue) ++ (slot l c ∷ [])); power = on r.left }) (cond b (renewing l c at) (entering l c at))
+      go true = refl
+      go false = refl
 
--- what a cut promises
-pub record CutsParts (choice : ℕ) (s s' : Parts) : Type 0 where
-  pub did : Cuts (meaning_in s) (meaning_in s')
-  pub parts : s' ≡ after_cut choice s
-  pub rest : rest_of s'.bytes ≡ rest_of s.bytes
-
-module _ (choice : ℕ) (s : Parts) (full : All Full s.queue) where
-  pub fences_off : is_on s.power ≡ false → FencesParts choice s (Err (NoPower Fence 65535)) s
-  fences_off o = record { did = fence_off choice s full o; parts = rw o refl; rest = refl }
-
-  pub fences_goes : (s' : Parts) → is_on s.power ≡ true → suffices s.power ≡ false → s' ≡ darkened choice s → FencesParts choice s (Err (NoPower Fence 65535)) s'
-  fences_goes s' o n q = rw q record { did = fence_goes choice s full o n; parts = rw (o, n) refl; rest = rest_darkened choice s full }
-
-  pub fences_on : (s' : Parts) → suffices s.power ≡ true → s' ≡ drained (paid s) → FencesParts choice s (Ok tt) s'
-  fences_on s' o q =
-      rw q record { did = fence_on choice s full o; parts = rw (suffices_on s.power o, o) refl; rest = rest_drained choice s full }
-
-  pub cuts_off : is_on s.power ≡ false → CutsParts choice s s
-  cuts_off o = record { did = cut_off choice s full o; parts = rw o refl; rest = refl }
-
-  pub cuts_on : (s' : Parts) → is_on s.power ≡ true → s' ≡ darkened choice s → CutsParts choice s s'
-  cuts_on s' o q = rw q record { did = cut_on choice s full o; parts = rw o refl; rest = rest_darkened choice s full }
-
--- room is made: with sixteen entries the oldest moves down, with fewer nothing changes
-pub room_full : (bs bs' : List ℕ) (fs gs : List Slot) (p p' : Power) (e : Slot) → length fs ≡ 16 → fs ≡ e ∷ gs → bs' ≡ with_line bs e.line e.content → p' ≡ p → ◌≡◌ {A = Parts} (record { bytes = bs'; queue = gs; power = p' }) (roomy (record { bytes = bs; queue = fs; power = p }))
+pub moved_one : (bs : List ℕ) (e : Slot) → with_line bs e.line e.content ≡ moved bs (e ∷ [])
 unfolding moved
-room_full bs bs' fs gs p p' e n a b q = rw (b, q, n, a) refl
+moved_one bs e = refl
 
-pub room_there : (s : Parts) → length s.queue ≤ 15 → s ≡ roomy s
+pub moved_none : (bs : List ℕ) → bs ≡ moved bs []
 unfolding moved
-room_there s h = let z : length s.queue - 15 ≡ 0 = omega arith in rw z refl
-
-pub room_length : (s : Parts) → length s.queue ≤ 16 → length (roomy s).queue < 16
-room_length s h = simp length-drop (omega arith)
-
-pub room_out : (s : Parts) (l : ℕ) → is_queued s.queue l ≡ false → is_queued (roomy s).queue l ≡ false
-room_out s l e = queued_drop (length s.queue - 15) s.queue l e
-
-pub renew_parts : (s : Parts) (l : ℕ) (c : Line) (fs : List Slot) (p : Power) → is_queued s.queue l ≡ true → fs ≡ map (renewed l c) s.queue → p ≡ s.power → ◌≡◌ {A = Parts} (record { bytes = s.bytes; queue = fs; power = p }) (entered l c s)
-renew_parts s l c fs p h a q = rw (h, a, q) refl
-
-pub enter_parts : (s t : Parts) (l : ℕ) (c : Line) (bs : List ℕ) (fs : List Slot) (p : Power) → is_queued s.queue l ≡ false → t ≡ roomy s → bs ≡ t.bytes → fs ≡ t.queue ++ (slot l c ∷ []) → p ≡ t.power → ◌≡◌ {A = Parts} (record { bytes = bs; queue = fs; power = p }) (entered l c s)
-enter_parts s t l c bs fs p h e a b q = rw (h, a, b, q, e) refl
-
--- renewing a line that is not queued changes nothing
-pub renewed_none : (l : ℕ) (c : Line) (fs : List Slot) → is_queued fs l ≡ false → map (renewed l c) fs ≡ fs
-renewed_none l c [] e = refl
-renewed_none l c (f ∷ fs) e =
-    rw (or_left (eqb f.line l) (is_queued fs l) e) (ap (λ (gs : List Slot). f ∷ gs) (renewed_none l c fs (or_right (eqb f.line l) (is_queued fs l) e)))
-
--- at most sixteen are queued
-pub few_of : (q : Queued) → length (parts_of q).queue ≤ 16
-few_of q = simp length-take (omega (arith, q.volatile.queue.few))
-
-pub once_of : (q : Queued) → (length (parts_of q).queue ≤ 16) × (distinct (parts_of q).queue ≡ true)
-once_of q = (few_of q, q.volatile.queue.once)
+moved_none bs = refl

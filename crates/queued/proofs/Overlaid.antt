@@ -1,9 +1,11 @@
 -- Lines with queued writes put in: what is read, what moving down and cutting keep.
-use Rattle.std.proofs.Common.{◌≡◌, ℕ, suc, ◌<◌, true, false, cond, eqb, ◌≢◌, ◌⊎◌, List, [], ◌∷◌, ◌++◌, map, length, get_or, take, drop, set, Some, None, Option, unwrap_or, sym, refl, ap, ◌∙◌, inl, inr, arith, length-set, eq-eqb, ne_eqb}
-use Rattle.std.specs.List.{AllByRecursion as All}
+use Rattle.std.proofs.Common.{◌≡◌, ℕ, suc, ◌<◌, Bool, true, false, cond, eqb, ◌≢◌, ◌⊎◌, List, [], ◌∷◌, ◌++◌, map, reverse, length, get_or, take, drop, set, Some, None, Option, unwrap_or, sym, refl, ap, ◌∙◌, inl, inr, arith, length-set, eq-eqb, ne_eqb}
+use Rattle.std.specs.List.{AllByRecursion as All, find}
+use Rattle.std.specs.Option.{option_map, option_or}
 use Rattle.std.proofs.ByRecursion.{All-take}
-use Rattle.std.proofs.lemmas.List.{get_or-set_same, get_or-set_other, set-set, set_comm, take-append-drop}
-use Rattle.std.proofs.lemmas.Bool.{cases_eq}
+use Rattle.std.proofs.lemmas.List.{reverse-append, get_or-set_same, get_or-set_other, set-set, set_comm, take-append-drop}
+use Rattle.std.proofs.lemmas.List.Folds.{find-append}
+use Rattle.std.proofs.lemmas.Bool.{cases_eq, or_parts}
 use Rattle.lines.specs.Lines.{Line, count_of, line_of, with_line, lines_of, rest_of}
 use Rattle.lines.proofs.Rows.{line_length, with_length, with_lines, with_rest, torn_length}
 use Rattle.queued.specs.declared.slot.Slot.{Slot}
@@ -12,12 +14,7 @@ use Rattle.queued.specs.declared.fate.Fate.TheVariants.{Old, New, Torn, Other}
 use Rattle.queued.specs.Slots.{slot, is_queued, newest, renewed}
 use Rattle.queued.specs.Fates.{fate_at, survivor}
 use Rattle.queued.specs.Below.{overlaid, moved, cut_down}
-use Rattle.queued.proofs.Entries.{Full, or_left, or_right}
-
-pub overlaid_length : (ls : List Line) (es : List Slot) → length (overlaid ls es) ≡ length ls
-unfolding overlaid
-overlaid_length ls [] = refl
-overlaid_length ls (e ∷ es) = overlaid_length (set ls e.line e.content) es ∙ length-set ls e.line e.content
+use Rattle.queued.specs.Sound.{Full}
 
 pub overlaid_none : (ls : List Line) → overlaid ls [] ≡ ls
 unfolding overlaid
@@ -28,22 +25,6 @@ unfolding overlaid
 overlaid-++ ls [] fs = refl
 overlaid-++ ls (e ∷ es) fs = overlaid-++ (set ls e.line e.content) es fs
 
--- every line is 64 bytes
-abbrev Lines : List Line → Type 0
-Lines ls = (l : ℕ) → l < length ls → length (get_or ls l []) ≡ 64
-
-set_lines : (ls : List Line) (i : ℕ) (c : Line) → length c ≡ 64 → Lines ls → Lines (set ls i c)
-set_lines ls i c e w l h = go (cases_eq l i)
-  where
-    go : (l ≡ i) ⊎ (l ≢ i) → length (get_or (set ls i c) l []) ≡ 64
-    go (inl q) = rw (q, get_or-set_same ls i c [] (omega (arith, length-set ls i c))) e
-    go (inr n) = rw (get_or-set_other ls i l c [] n) (w l (omega (arith, length-set ls i c)))
-
-pub overlaid_whole : (ls : List Line) (es : List Slot) → All Full es → Lines ls → Lines (overlaid ls es)
-unfolding overlaid
-overlaid_whole ls [] a w = w
-overlaid_whole ls (e ∷ es) a w = overlaid_whole (set ls e.line e.content) es a.1 (set_lines ls e.line e.content a.0 w)
-
 unlike : (m n : ℕ) → eqb m n ≡ false → n ≢ m
 unlike m n e q = let t : eqb m n ≡ true = eq-eqb m n (sym q) in absurd (grind arith)
 
@@ -52,22 +33,34 @@ pub overlaid_other : (ls : List Line) (es : List Slot) (l : ℕ) → is_queued e
 unfolding overlaid
 overlaid_other ls [] l e = refl
 overlaid_other ls (f ∷ es) l e =
-    overlaid_other (set ls f.line f.content) es l (or_right (eqb f.line l) (is_queued es l) e)
-    ∙ get_or-set_other ls f.line l f.content [] (unlike f.line l (or_left (eqb f.line l) (is_queued es l) e))
+    overlaid_other (set ls f.line f.content) es l (or_parts (eqb f.line l) (is_queued es l) e).1
+    ∙ get_or-set_other ls f.line l f.content [] (unlike f.line l (or_parts (eqb f.line l) (is_queued es l) e).0)
 
 -- a line reads as its newest entry, else as below
-newest_read : (ls : List Line) (es : List Slot) (l : ℕ) (found : Option Line) (x : Line) → l < length ls → get_or ls l [] ≡ unwrap_or found x → get_or (overlaid ls es) l [] ≡ unwrap_or (newest found es l) x
-unfolding overlaid
-newest_read ls [] l found x h e = e
-newest_read ls (f ∷ es) l found x h e =
-    newest_read (set ls f.line f.content) es l (cond (eqb f.line l) (Some f.content) found) x (omega (arith, length-set ls f.line f.content)) (go (cases_eq f.line l))
+newest_next : (e : Slot) (es : List Slot) (l : ℕ) → newest (e ∷ es) l ≡ option_or (newest es l) (cond (eqb e.line l) (Some e.content) None)
+newest_next e es l =
+    ap (option_map (λ x. x.content)) (ap (find (λ x. eqb x.line l)) (reverse-append (e ∷ []) es) ∙ find-append (λ x. eqb x.line l) (reverse es) (e ∷ []))
+    ∙ go (find (λ x. eqb x.line l) (reverse es)) (eqb e.line l)
   where
-    go : (f.line ≡ l) ⊎ (f.line ≢ l) → get_or (set ls f.line f.content) l [] ≡ unwrap_or (cond (eqb f.line l) (Some f.content) found) x
-    go (inl q) = rw (eq-eqb f.line l q, q, get_or-set_same ls l f.content [] h) refl
-    go (inr n) = rw (ne_eqb f.line l n, get_or-set_other ls f.line l f.content [] (λ p. n (sym p))) e
+    go : (o : Option Slot) (b : Bool) → option_map (λ x. x.content) (option_or o (cond b (Some e) None)) ≡ option_or (option_map (λ x. x.content) o) (cond b (Some e.content) None)
+    go None true = refl
+    go None false = refl
+    go (Some x) b = refl
 
-pub overlaid_newest : (ls : List Line) (es : List Slot) (l : ℕ) → l < length ls → get_or (overlaid ls es) l [] ≡ unwrap_or (newest None es l) (get_or ls l [])
-overlaid_newest ls es l h = newest_read ls es l None (get_or ls l []) h refl
+unwrap_or_or : {A : Type 0} (o p : Option A) (d : A) → unwrap_or (option_or o p) d ≡ unwrap_or o (unwrap_or p d)
+unwrap_or_or None p d = refl
+unwrap_or_or (Some x) p d = refl
+
+pub overlaid_newest : (ls : List Line) (es : List Slot) (l : ℕ) → l < length ls → get_or (overlaid ls es) l [] ≡ unwrap_or (newest es l) (get_or ls l [])
+unfolding overlaid
+overlaid_newest ls [] l h = refl
+overlaid_newest ls (f ∷ es) l h =
+    overlaid_newest (set ls f.line f.content) es l (omega (arith, length-set ls f.line f.content))
+    ∙ (ap (unwrap_or (newest es l)) (go (cases_eq f.line l)) ∙ sym (ap (λ o. unwrap_or o (get_or ls l [])) (newest_next f es l) ∙ unwrap_or_or (newest es l) (cond (eqb f.line l) (Some f.content) None) (get_or ls l [])))
+  where
+    go : (f.line ≡ l) ⊎ (f.line ≢ l) → get_or (set ls f.line f.content) l [] ≡ unwrap_or (cond (eqb f.line l) (Some f.content) None) (get_or ls l [])
+    go (inl q) = rw (eq-eqb f.line l q, q, get_or-set_same ls l f.content [] h) refl
+    go (inr n) = rw (ne_eqb f.line l n) (get_or-set_other ls f.line l f.content [] (λ p. n (sym p)))
 
 -- moving entries down changes what lies below, and no more
 pub moved_length : (bs : List ℕ) (es : List Slot) → All Full es → length (moved bs es) ≡ length bs
@@ -117,9 +110,9 @@ module _ (choice : ℕ) where
   unfolding cut_down
   cut_other i bs [] l a e = refl
   cut_other i bs (f ∷ es) l a e =
-      cut_other (suc i) (with_line bs f.line (survivor (fate_at choice i) (line_of bs f.line) f.content)) es l a.1 (or_right (eqb f.line l) (is_queued es l) e)
+      cut_other (suc i) (with_line bs f.line (survivor (fate_at choice i) (line_of bs f.line) f.content)) es l a.1 (or_parts (eqb f.line l) (is_queued es l) e).1
       ∙ (ap (λ (ls : List Line). get_or ls l []) (with_lines bs f.line (survivor (fate_at choice i) (line_of bs f.line) f.content) (left_length i bs f a.0))
-      ∙ get_or-set_other (lines_of bs) f.line l (survivor (fate_at choice i) (line_of bs f.line) f.content) [] (unlike f.line l (or_left (eqb f.line l) (is_queued es l) e)))
+      ∙ get_or-set_other (lines_of bs) f.line l (survivor (fate_at choice i) (line_of bs f.line) f.content) [] (unlike f.line l (or_parts (eqb f.line l) (is_queued es l) e).0))
 
 -- put in under all entries, the content comes out on top of them, if they are renewed
 renewed_under : (l : ℕ) (c : Line) (ls : List Line) (es : List Slot) → overlaid (set ls l c) (map (renewed l c) es) ≡ set (overlaid ls es) l c

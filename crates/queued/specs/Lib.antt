@@ -3,3 +3,4 @@ pub mod Queue
 pub mod Fates
 pub mod Below
 pub mod Queued
+pub mod Sound

@@ -2,7 +2,7 @@
 ghost use Rattle.std.specs.Prelude.{◌≡◌, ◌≤◌, length};
 ghost use Rattle.queued.specs.Below.{moved, cut_down};
 
-use crate::fate::{fate_at, survivor_of};
+use crate::fate::Fate;
 use crate::slot::Slot;
 use lines::{read_line, write_line};
 
@@ -20,14 +20,10 @@ pub(crate) fn cut_down(bytes: &mut [u8], entries: &[Slot], choice: u32)
     requires { length entries.now ≤ 16 }
     ensures { bytes.new ≡ cut_down choice 0 bytes.old entries.now }
 {
-    for i in 0..entries.len() {
-        let waiting = entries[i];
+    for (i, waiting) in entries.iter().enumerate() {
         if let Some(old) = read_line(bytes, waiting.line) {
-            write_line(
-                bytes,
-                waiting.line,
-                &survivor_of(fate_at(choice, i), &old, &waiting.content),
-            );
+            let left = Fate::at(choice, i).survivor(&old, &waiting.content);
+            write_line(bytes, waiting.line, &left);
         }
     }
 }

@@ -2,207 +2,182 @@
 // a cut leaves of each.
 #![tactic(auto)]
 
-ghost use Rattle.std.specs.Prelude.{◌≡◌, ◌≤◌, true, [], length, nat_lt};
-ghost use Rattle.lines.specs.Lines.{count_of, line_at, rest_of};
-ghost use Rattle.memory.specs.Meaning.{Sound, Writes, Fences, Cuts, powered_up};
-ghost use Rattle.memory.specs.declared.power.Power.TheVariants.{Off};
-ghost use Rattle.memory.specs.Power.{is_on};
+ghost use Rattle.std.specs.Prelude.{◌≡◌, ◌≤◌, true, [], length, ok_or, if◌then◌else◌};
+ghost use Rattle.lines.specs.Lines.{line_at, StaysLent};
+ghost use Rattle.memory.specs.declared.fault.MemoryFault.TheVariants.{NoSuchLine, NoPower};
+ghost use Rattle.memory.specs.Meaning.{Writes, Fences, Cuts, powered_up};
+ghost use Rattle.memory.specs.Power.{off, is_on, suffices};
 ghost use Rattle.queued.specs.Slots.{distinct};
-ghost use Rattle.queued.specs.Queued.{parts_of, meant, darkened, roomy, entered, drained, after_write, after_fence, after_cut, after_power_up};
+ghost use Rattle.queued.specs.Queue.{entries_in};
+ghost use Rattle.queued.specs.Queued.{parts_of, meant, stopped, operated, entered, drained, after_write, after_fence, after_cut, after_power_up};
+ghost use Rattle.queued.specs.Sound.{always_sound};
 
 use below::{cut_down, move_down};
 use lines::{line_count, read_line, write_line};
 use memory::{Memory, MemoryFault, Operation};
-use volatile::Volatile;
+use queue::Queue;
+use running::Running;
+use slot::Slot;
 
 mod below;
 mod fate;
 mod queue;
+mod running;
 mod slot;
-mod volatile;
 
 #[derive(Drop)]
 pub struct Queued<'a> {
     bytes: &'a mut [u8],
     choice: u32,
-    volatile: Volatile,
+    running: Option<Running>,
 }
 
 impl<'a> Queued<'a> {
     // A memory on all whole lines of the bytes, with power off and nothing queued. A rest below 64 bytes is never touched.
     pub fn new(bytes: &'a mut [u8], choice: u32) -> Queued<'a>
-        ensures parts { parts_of result ≡ record { bytes = bytes.old; queue = []; power = Off } }
-        ensures choice { result.choice ≡ choice }
+        ensures parts { parts_of result ≡ record { bytes = bytes.old; choice = choice; queue = []; power = off } }
         ensures lender { result.bytes.ghost_name ≡ bytes.entry.ghost_name }
     {
         Queued {
             bytes,
             choice,
-            volatile: Volatile::new(),
+            running: None,
         }
     }
 
-    fn has_line(&self, line: u16) -> bool
-        ensures { result ≡ nat_lt line (count_of (parts_of self.now).bytes) }
+    // What stands below in a line.
+    fn below(&self, line: u16) -> Result<[u8; 64], MemoryFault>
+        ensures { result ≡ ok_or (line_at (parts_of self.now).bytes line) (NoSuchLine line) }
     {
-        (line as usize) < line_count(self.bytes)
+        read_line(self.bytes, line).ok_or(MemoryFault::NoSuchLine { line })
     }
 
-    // What stands below in a line, if there is such a line.
-    fn below(&self, line: u16) -> Option<[u8; 64]>
-        ensures { result ≡ line_at (parts_of self.now).bytes line }
+    // Power goes, and what was queued is handed out.
+    fn stop(&mut self) -> Queue
+        ensures given { entries_in result ≡ (parts_of self.old).queue }
+        ensures parts { parts_of self.new ≡ stopped (parts_of self.old) }
+        // it speaks of two states, so no type can hold it
+        ensures lent { StaysLent self.old.bytes self.new.bytes }
     {
-        read_line(self.bytes, line)
+        self.running
+            .take()
+            .map_or_else(Queue::new, |running| running.queue)
     }
 
-    // Power goes: each queued line is left by its fate.
-    fn lose_power(&mut self)
-        ensures parts { parts_of self.new ≡ darkened self.old.choice (parts_of self.old) }
-        ensures choice { self.new.choice ≡ self.old.choice }
-        ensures lender { self.new.bytes.ghost_name ≡ self.old.bytes.ghost_name }
+    // Spends one operation; with none left power goes.
+    fn spend(&mut self, operation: Operation) -> Result<(), MemoryFault>
+        ensures answer { result ≡ (if suffices (parts_of self.old).power then Ok tt else Err (NoPower operation)) }
+        ensures parts { parts_of self.new ≡ operated (λ s. s) (parts_of self.old) }
+        ensures lent { StaysLent self.old.bytes self.new.bytes }
     {
-        let queue = self.volatile.lose_power();
-        let choice = self.choice;
-        cut_down(self.bytes, queue.entries(), choice);
-    }
-
-    // Moves the oldest entry down if sixteen are queued.
-    fn make_room(&mut self)
-        ensures parts { parts_of self.new ≡ roomy (parts_of self.old) }
-        ensures choice { self.new.choice ≡ self.old.choice }
-        ensures lender { self.new.bytes.ghost_name ≡ self.old.bytes.ghost_name }
-    {
-        if self.volatile.is_full() {
-            let oldest = self.volatile.take_oldest();
-            write_line(self.bytes, oldest.line, &oldest.content);
+        match &mut self.running {
+            Some(running) if running.left > 0 => {
+                running.left -= 1;
+                Ok(())
+            }
+            _ => {
+                self.cut();
+                Err(MemoryFault::NoPower { operation })
+            }
         }
     }
 
-    // The queue takes a write.
+    // The queue takes a write, and what comes out moves down.
     fn take_write(&mut self, line: u16, content: &[u8; 64])
         requires { is_on (parts_of self.old).power ≡ true }
         ensures parts { parts_of self.new ≡ entered line content.now (parts_of self.old) }
-        ensures choice { self.new.choice ≡ self.old.choice }
-        ensures lender { self.new.bytes.ghost_name ≡ self.old.bytes.ghost_name }
+        ensures lent { StaysLent self.old.bytes self.new.bytes }
     {
-        if self.volatile.renew(line, content) {
-            return;
+        if let Some(running) = &mut self.running {
+            let write = Slot {
+                line,
+                content: *content,
+            };
+            if let Some(oldest) = running.queue.take(write) {
+                write_line(self.bytes, oldest.line, &oldest.content);
+            }
         }
-        self.make_room();
-        self.volatile.enter(line, content);
     }
 
     // All queued lines move down.
     fn drain(&mut self)
         ensures parts { parts_of self.new ≡ drained (parts_of self.old) }
-        ensures choice { self.new.choice ≡ self.old.choice }
-        ensures lender { self.new.bytes.ghost_name ≡ self.old.bytes.ghost_name }
+        ensures lent { StaysLent self.old.bytes self.new.bytes }
     {
-        let queue = self.volatile.take_all();
-        move_down(self.bytes, queue.entries());
+        if let Some(running) = &mut self.running {
+            move_down(self.bytes, running.queue.entries());
+            running.queue = Queue::new();
+        }
     }
 }
 
 impl<'a> Memory for Queued<'a> {
     ghost meaning = { meant };
 
+    ghost sound = { always_sound };
+
     fn line_count(&self) -> usize {
         line_count(self.bytes)
     }
 
     fn is_on(&self) -> bool {
-        self.volatile.is_on()
+        self.running.is_some()
     }
 
     fn operations_left(&self) -> u32 {
-        self.volatile.operations_left()
+        self.running.as_ref().map_or(0, |running| running.left)
     }
 
     fn read(&self, line: u16) -> Result<[u8; 64], MemoryFault> {
-        let Some(below) = self.below(line) else {
-            return Err(MemoryFault::NoSuchLine { line });
-        };
-        if !self.volatile.is_on() {
-            return Err(MemoryFault::Unreadable { line });
-        }
-        Ok(self.volatile.content(line).unwrap_or(below))
+        let below = self.below(line)?;
+        let running = self
+            .running
+            .as_ref()
+            .ok_or(MemoryFault::Unreadable { line })?;
+        Ok(running.queue.content(line).unwrap_or(below))
     }
 
     fn write(&mut self, line: u16, content: &[u8; 64]) -> Result<(), MemoryFault>
         ensures did { Writes (meant self.old) line content.now result (meant self.new) }
-        ensures sound { Sound (meant self.new) }
-        ensures parts { parts_of self.new ≡ after_write self.old.choice line content.now (parts_of self.old) }
+        ensures parts { parts_of self.new ≡ after_write line content.now (parts_of self.old) }
         ensures queue { (length (parts_of self.new).queue ≤ 16) × (distinct (parts_of self.new).queue ≡ true) }
-        ensures rest { rest_of (parts_of self.new).bytes ≡ rest_of (parts_of self.old).bytes }
-        ensures choice { self.new.choice ≡ self.old.choice }
-        ensures lender { self.new.bytes.ghost_name ≡ self.old.bytes.ghost_name }
+        ensures lent { StaysLent self.old.bytes self.new.bytes }
     {
-        if !self.has_line(line) {
-            return Err(MemoryFault::NoSuchLine { line });
-        }
-        if !self.volatile.is_on() {
-            return Err(MemoryFault::NoPower {
-                operation: Operation::Write,
-                line,
-            });
-        }
-        if !self.volatile.spend() {
-            self.lose_power();
-            return Err(MemoryFault::NoPower {
-                operation: Operation::Write,
-                line,
-            });
-        }
+        self.below(line)?;
+        self.spend(Operation::Write { line })?;
         self.take_write(line, content);
         Ok(())
     }
 
     fn fence(&mut self) -> Result<(), MemoryFault>
         ensures did { Fences (meant self.old) result (meant self.new) }
-        ensures sound { Sound (meant self.new) }
-        ensures parts { parts_of self.new ≡ after_fence self.old.choice (parts_of self.old) }
-        ensures rest { rest_of (parts_of self.new).bytes ≡ rest_of (parts_of self.old).bytes }
-        ensures choice { self.new.choice ≡ self.old.choice }
-        ensures lender { self.new.bytes.ghost_name ≡ self.old.bytes.ghost_name }
+        ensures parts { parts_of self.new ≡ after_fence (parts_of self.old) }
+        ensures lent { StaysLent self.old.bytes self.new.bytes }
     {
-        if !self.volatile.is_on() {
-            return Err(MemoryFault::NoPower {
-                operation: Operation::Fence,
-                line: 65535,
-            });
-        }
-        if !self.volatile.spend() {
-            self.lose_power();
-            return Err(MemoryFault::NoPower {
-                operation: Operation::Fence,
-                line: 65535,
-            });
-        }
+        self.spend(Operation::Fence)?;
         self.drain();
         Ok(())
     }
 
     fn cut(&mut self)
         ensures did { Cuts (meant self.old) (meant self.new) }
-        ensures sound { Sound (meant self.new) }
-        ensures parts { parts_of self.new ≡ after_cut self.old.choice (parts_of self.old) }
-        ensures rest { rest_of (parts_of self.new).bytes ≡ rest_of (parts_of self.old).bytes }
-        ensures choice { self.new.choice ≡ self.old.choice }
-        ensures lender { self.new.bytes.ghost_name ≡ self.old.bytes.ghost_name }
+        ensures parts { parts_of self.new ≡ after_cut (parts_of self.old) }
+        ensures lent { StaysLent self.old.bytes self.new.bytes }
     {
-        if self.volatile.is_on() {
-            self.lose_power();
-        }
+        let queue = self.stop();
+        let choice = self.choice;
+        cut_down(self.bytes, queue.entries(), choice);
     }
 
     fn power_up(&mut self, operations: u32)
         ensures did { meant self.new ≡ powered_up (meant self.old) operations }
-        ensures sound { Sound (meant self.new) }
         ensures parts { parts_of self.new ≡ after_power_up operations (parts_of self.old) }
-        ensures rest { rest_of (parts_of self.new).bytes ≡ rest_of (parts_of self.old).bytes }
-        ensures choice { self.new.choice ≡ self.old.choice }
-        ensures lender { self.new.bytes.ghost_name ≡ self.old.bytes.ghost_name }
+        ensures lent { StaysLent self.old.bytes self.new.bytes }
     {
-        self.volatile.power_up(operations);
+        let queue = self.stop();
+        self.running = Some(Running {
+            left: operations,
+            queue,
+        });
     }
 }

@@ -1,1 +1,2 @@
 pub mod Straight
+pub mod Sound

@@ -2,8 +2,7 @@
 use Rattle.std.specs.Prelude.{ℕ, true, cond, List, replicate, nat_lt}
 use Rattle.lines.specs.Lines.{Line, count_of, line_of, with_line, lines_of, torn}
 use Rattle.memory.specs.declared.power.Power.{Power}
-use Rattle.memory.specs.declared.power.Power.TheVariants.{Off, On}
-use Rattle.memory.specs.Power.{spent, meaning_of}
+use Rattle.memory.specs.Power.{is_on, suffices, spent, meaning_of}
 use Rattle.memory.specs.Meaning.{Meaning}
 use Rattle.straight.specs.declared.Straight.{Straight}
 
@@ -18,8 +17,7 @@ meant s = meaning_of (lines_of (bytes_in s)) (replicate (count_of (bytes_in s)) 
 -- what a write of content c to line l leaves in the bytes: nothing new with power off, the line with operations left,
 -- and with none left its first 32 bytes
 abbrev pub written : Power → List ℕ → ℕ → Line → List ℕ
-written Off bs l c = bs
-written (On n) bs l c = with_line bs l (cond (nat_lt 0 n) c (torn (line_of bs l) c))
+written p bs l c = cond (is_on p) (with_line bs l (cond (suffices p) c (torn (line_of bs l) c))) bs
 
 -- a write to a missing line spends nothing
 abbrev pub power_after_write : Power → List ℕ → ℕ → Power

@@ -1,22 +1,16 @@
-use Rattle.std.proofs.Common.{sym, refl}
+use Rattle.std.proofs.Common.{◌∙◌}
 use Rattle.queued.specs.Queued.{parts_of}
-use Rattle.queued.proofs.Meant.{sound_of, full_of, cuts_on, cuts_off}
+use Rattle.queued.specs.Sound.{full_of}
+use Rattle.queued.proofs.Meant.{cut_by, cut_in, cut_keeps}
 use Rattle.queued.proofs.QueuedMemory.cut.Goals as goal
 
-pub returns-then-is_on : goal.returns-then-is_on
-returns-then-is_on c =
-    let w = cuts_on c.args.self.now.choice (parts_of c.args.self.now) (full_of c.args.self.now) (parts_of c.lose_power.new.self)
-    (sym c.if-is_on.ensures) c.lose_power.ensures.parts in
-    record {
-      did = w.did;
-      sound = sound_of c.lose_power.new.self;
-      parts = w.parts;
-      rest = w.rest;
-      choice = c.lose_power.ensures.choice;
-      lender = c.lose_power.ensures.lender;
-    }
+pub returns-clause-parts : goal.returns-clause-parts
+returns-clause-parts c =
+    cut_by c.args.self.now (parts_of c.stop-queue.new.self) _ c.entries.result.now c.stop-queue.ensures.parts (c.entries.ensures ∙ c.stop-queue.ensures.given) c.cut_down.ensures
 
-pub returns-else-is_on : goal.returns-else-is_on
-returns-else-is_on c =
-    let w = cuts_off c.args.self.now.choice (parts_of c.args.self.now) (full_of c.args.self.now) (sym c.if-is_on.ensures) in
-    record { did = w.did; sound = sound_of c.args.self.now; parts = w.parts; rest = w.rest; choice = refl; lender = refl }
+pub returns-clause-did : goal.returns-clause-did
+returns-clause-did c = cut_in (parts_of c.args.self.now) (full_of c.args.self.now) _ (returns-clause-parts c)
+
+pub returns-clause-lent : goal.returns-clause-lent
+returns-clause-lent c =
+    record { lender = c.stop-queue.ensures.lent.lender; rest = cut_keeps (parts_of c.args.self.now) (full_of c.args.self.now) _ (returns-clause-parts c) }

@@ -1,8 +1,7 @@
 use Rattle.std.proofs.Common.{sym, ◌∙◌}
 use Rattle.queued.specs.Queued.{parts_of}
-use Rattle.queued.proofs.Meant.{sound_of, count_of_lem}
+use Rattle.queued.proofs.Meant.{count_of_lem}
 use Rattle.queued.proofs.QueuedMemory.line_count.Goals as goal
 
 pub returns : goal.returns
-returns c =
-    record { count = c.line_count.ensures ∙ sym (count_of_lem (parts_of c.args.self.now)); sound = sound_of c.args.self.now }
+returns c = c.line_count.ensures ∙ sym (count_of_lem (parts_of c.args.self.now))

@@ -1,14 +1,5 @@
-use Rattle.std.proofs.Common.{refl}
-use Rattle.memory.specs.declared.power.Power.TheVariants.{Off}
-use Rattle.straight.proofs.Meant.{sound_in, cuts_in}
+use Rattle.straight.proofs.Meant.{cuts_in}
 use Rattle.straight.proofs.StraightMemory.cut.Goals as goal
 
-pub returns : goal.returns
-returns c =
-    record {
-      did = cuts_in c.args.self.now.bytes.now c.args.self.now.power;
-      sound = sound_in c.args.self.now.bytes.now Off;
-      bytes = refl;
-      power = refl;
-      lender = refl;
-    }
+pub returns-clause-did : goal.returns-clause-did
+returns-clause-did c = rw c.off-self.ensures (cuts_in c.args.self.now.bytes.now c.args.self.now.power)
