@@ -1,3 +1,2 @@
 pub mod Called
-pub mod Folds
 pub mod Steps

@@ -4,6 +4,7 @@ ghost use Rattle.outage.specs.Content.{old_content, new_content, called};
 
 use lines::torn_line;
 
+// It is no Fate of queued: that is private to a memory, and a reader of lines knows no choice.
 #[derive(Clone, Copy)]
 pub enum Stands {
     Old,

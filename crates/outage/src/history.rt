@@ -68,22 +68,18 @@ impl Durability {
 fn asked_by(steps: &[Step], line: u16) -> Asked
     ensures { result ≡ asked_by steps.now line }
 {
-    let mut asked = Asked::Nothing;
-    for step in steps {
-        asked = asked.and(*step, line);
-    }
-    asked
+    steps
+        .iter()
+        .fold(Asked::Nothing, |asked, step| asked.and(*step, line))
 }
 
 // Whether a line is durable after steps that completed. Before them every line is.
 fn durability_by(steps: &[Step], line: u16, kind: Kind) -> Durability
     ensures { result ≡ durability_by kind steps.now line }
 {
-    let mut durability = Durability::Durable;
-    for step in steps {
-        durability = durability.after(*step, line, kind);
-    }
-    durability
+    steps.iter().fold(Durability::Durable, |durability, step| {
+        durability.after(*step, line, kind)
+    })
 }
 
 impl History<'_> {
@@ -91,10 +87,7 @@ impl History<'_> {
     fn lost_at(&self, line: u16) -> bool
         ensures { result ≡ lost_by self.now.loss line }
     {
-        match self.loss {
-            Some(loss) => loss.step.writes(line),
-            None => false,
-        }
+        self.loss.is_some_and(|loss| loss.step.writes(line))
     }
 
     pub(crate) fn asked(&self, line: u16) -> Asked

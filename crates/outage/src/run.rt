@@ -17,75 +17,83 @@ pub struct Account {
     pub stands: [Stands; LINES],
 }
 
-// Gives every line its old content, durable.
-fn settle<M: Memory>(memory: &mut M) -> Result<(), MemoryFault>
-    ensures settled { OnOk result (Settled (M.Memory.meaning memory.new)) }
-    ensures count { length (M.Memory.meaning memory.new).lines ≡ length (M.Memory.meaning memory.old).lines }
-    ensures given { 6 ≤ length (M.Memory.meaning memory.old).lines → is_ok result ≡ true }
-{
-    memory.power_up(u32::MAX);
-    for line in 0..LINES as u16 {
-        memory.write(line, &old_content(line))?;
-    }
-    memory.fence()?;
-    memory.cut();
-    Ok(())
+// A memory that has a line for each of the story's.
+#[derive(Drop)]
+struct Stage<M: Memory> {
+    memory: M,
+    ghost lines: { 6 ≤ length (M.Memory.meaning memory).lines },
 }
 
-fn take_step<M: Memory>(memory: &mut M, step: Step) -> Result<(), MemoryFault>
-    ensures { Stepped (M.Memory.meaning memory.old) step result (M.Memory.meaning memory.new) }
-{
-    match step {
-        Step::Write { line } => memory.write(line, &new_content(line)),
-        Step::Fence => memory.fence(),
+impl<M: Memory> Stage<M> {
+    // Gives every line its old content, durable.
+    fn settle(&mut self) -> Result<(), MemoryFault>
+        ensures settled { OnOk result (Settled (M.Memory.meaning self.new.memory)) }
+        ensures given { is_ok result ≡ true }
+    {
+        self.memory.power_up(u32::MAX);
+        for line in 0..LINES as u16 {
+            self.memory.write(line, &old_content(line))?;
+        }
+        self.memory.fence()?;
+        self.memory.cut();
+        Ok(())
     }
-}
 
-// Takes the steps in order, up to the first that does not complete.
-fn take_steps<'a, M: Memory>(memory: &mut M, steps: &'a [Step]) -> History<'a>
-    ensures tells { Tells steps.now result }
-    ensures count { length (M.Memory.meaning memory.new).lines ≡ length (M.Memory.meaning memory.old).lines }
-    ensures kept { Kept M.Memory.meaning memory.old result memory.new }
-{
-    for (i, step) in steps.iter().enumerate() {
-        if let Err(fault) = take_step(memory, *step) {
-            let loss = Loss { step: *step, fault };
-            return History {
-                completed: &steps[0..i],
-                loss: Some(loss),
-            };
+    fn take_step(&mut self, step: Step) -> Result<(), MemoryFault>
+        ensures { Stepped (M.Memory.meaning self.old.memory) step result (M.Memory.meaning self.new.memory) }
+    {
+        // the steps are data that the definitions speak of and the program prints, so they are no table of closures
+        match step {
+            Step::Write { line } => self.memory.write(line, &new_content(line)),
+            Step::Fence => self.memory.fence(),
         }
     }
-    History {
-        completed: steps,
-        loss: None,
-    }
-}
 
-fn read_lines<M: Memory>(memory: &M) -> Result<[Stands; LINES], MemoryFault>
-    ensures found { IfOk result (Found (M.Memory.meaning memory.now)) }
-    ensures given { 6 ≤ length (M.Memory.meaning memory.now).lines → (M.Memory.meaning memory.now).on ≡ true → is_ok result ≡ true }
-{
-    let mut stands = [Stands::Other; LINES];
-    for line in 0..LINES {
-        let number = line as u16;
-        stands[line] = stands_as(number, &memory.read(number)?);
+    // Takes the steps in order, up to the first that does not complete.
+    fn take_steps<'a>(&mut self, steps: &'a [Step]) -> History<'a>
+        ensures tells { Tells steps.now result }
+        ensures kept { Kept M.Memory.meaning self.old.memory result self.new.memory }
+    {
+        for (i, step) in steps.iter().enumerate() {
+            if let Err(fault) = self.take_step(*step) {
+                let loss = Loss { step: *step, fault };
+                return History {
+                    completed: &steps[0..i],
+                    loss: Some(loss),
+                };
+            }
+        }
+        History {
+            completed: steps,
+            loss: None,
+        }
     }
-    Ok(stands)
-}
 
-// Loses power after some operations of the story, and powers up again to read.
-fn lose_power<M: Memory>(memory: &mut M, operations: u32) -> Result<Account, MemoryFault>
-    ensures tells { IfOk result (λ a. Tells STEPS a.history) }
-    ensures asked { IfOk result (λ a. (k : Kind) → Honest M.Memory.meaning k → AsAsked k a) }
-    ensures given { 6 ≤ length (M.Memory.meaning memory.old).lines → is_ok result ≡ true }
-{
-    settle(memory)?;
-    memory.power_up(operations);
-    let history = take_steps(memory, &STEPS);
-    memory.power_up(0);
-    let stands = read_lines(memory)?;
-    Ok(Account { history, stands })
+    fn read_lines(&self) -> Result<[Stands; LINES], MemoryFault>
+        ensures found { IfOk result (Found (M.Memory.meaning self.now.memory)) }
+        ensures given { (M.Memory.meaning self.now.memory).on ≡ true → is_ok result ≡ true }
+    {
+        let mut stands = [Stands::Other; LINES];
+        for (line, place) in stands.iter_mut().enumerate() {
+            let number = line as u16;
+            *place = stands_as(number, &self.memory.read(number)?);
+        }
+        Ok(stands)
+    }
+
+    // Loses power after some operations of the story, and powers up again to read.
+    fn lose_power(&mut self, operations: u32) -> Result<Account, MemoryFault>
+        ensures tells { IfOk result (λ a. Tells STEPS a.history) }
+        ensures asked { IfOk result (λ a. (k : Kind) → Honest M.Memory.meaning k → AsAsked k a) }
+        ensures given { is_ok result ≡ true }
+    {
+        self.settle()?;
+        self.memory.power_up(operations);
+        let history = self.take_steps(&STEPS);
+        self.memory.power_up(0);
+        let stands = self.read_lines()?;
+        Ok(Account { history, stands })
+    }
 }
 
 // Each run gives an account: how far the story came, and that a line that is durable stands as asked.
@@ -96,11 +104,15 @@ pub(crate) fn account_of(kind: Kind, part: Part) -> Result<Account, MemoryFault>
 {
     let mut bytes = [0; 64 * LINES];
     let operations = part.operations();
+    // each arm makes a memory of a type of its own
     match kind {
-        Kind::Straight => lose_power(&mut Straight::new(&mut bytes), operations),
-        Kind::Queued { choice } => lose_power(
-            &mut Queued::new(&mut bytes, choice.bits()),
-            operations,
-        ),
+        Kind::Straight => {
+            let memory = Straight::new(&mut bytes);
+            Stage { memory }.lose_power(operations)
+        }
+        Kind::Queued { choice } => {
+            let memory = Queued::new(&mut bytes, choice.bits());
+            Stage { memory }.lose_power(operations)
+        }
     }
 }

@@ -5,6 +5,7 @@ ghost use Rattle.outage.specs.Story.{operations_in, choice_bits};
 // How many lines each memory has.
 pub const LINES: usize = 6;
 
+// It is no memory::Operation: it is told in other words, and the definitions fold over it.
 #[derive(Clone, Copy)]
 pub enum Step {
     Write { line: u16 },

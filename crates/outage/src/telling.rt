@@ -62,11 +62,10 @@ fn tell_account(rt: &impl Print, kind: Kind, account: &Account) -> io::Result<()
         }
         None => println!(rt; "{kind} answers every operation")?,
     }
-    for line in 0..LINES {
+    for (line, stands) in account.stands.iter().enumerate() {
         let number = line as u16;
         let asked = account.history.asked(number);
         let durability = account.history.durability(number, kind);
-        let stands = account.stands[line];
         println!(rt; "  line {line}: asked {asked:<7}  {durability:<11}  stands {stands}")?;
     }
     Ok(())
