@@ -1,27 +1,10 @@
--- The search from the lowest bucket on: its steps, and that what it finds is the lowest.
-use Rattle.std.proofs.Common.{◌≡◌, ℕ, zero, suc, ◌+◌, ◌-◌, ◌<◌, ◌≤◌, Bool, true, false, cond, List, Some, None, Option, sym, ap, ◌∙◌, ⊎_elim, arith}
-use Rattle.std.proofs.lemmas.Bool.{cond-true, cond-false, cases_Bool, cases_eq, both_ways}
+-- What the search from the lowest bucket on finds is the lowest.
+use Rattle.std.proofs.Common.{◌≡◌, ℕ, zero, suc, ◌+◌, ◌<◌, ◌≤◌, Bool, true, false, List, Some, None, Option, sym, ap, ◌∙◌, ⊎_elim, arith}
+use Rattle.std.proofs.lemmas.Bool.{cases_Bool, cases_eq, both_ways}
 use Rattle.layout.specs.declared.block.BlockEntry.{BlockEntry}
 use Rattle.layout.specs.declared.«open».OpenRecord.{OpenRecord}
 use Rattle.buckets.specs.Buckets.{free, lowest_free, Free, LowestFree}
 use Rattle.buckets.proofs.Tests.{free_is, free_test}
-
-lowest_step : (f : ℕ → Bool) (n i : ℕ) → i < n → lowest_free f (n - i) i ≡ cond (f i) (Some i) (lowest_free f (n - (i + 1)) (i + 1))
-unfolding lowest_free
-lowest_step f n i h = let e : n - i ≡ suc (n - (i + 1)) = omega arith in ap (λ (m : ℕ). lowest_free f m i) e
-
-pub lowest_start : (f : ℕ → Bool) (n : ℕ) → lowest_free f (n - 0) 0 ≡ lowest_free f n 0
-lowest_start f n = let e : n - 0 ≡ n = omega arith in ap (λ (m : ℕ). lowest_free f m 0) e
-
-pub lowest_more : (f : ℕ → Bool) (n i : ℕ) (x : Option ℕ) → i < n → f i ≡ false → lowest_free f (n - i) i ≡ x → lowest_free f (n - (i + 1)) (i + 1) ≡ x
-lowest_more f n i x h e inv = sym (cond-false _ _ _ e) ∙ sym (lowest_step f n i h) ∙ inv
-
-pub lowest_found : (f : ℕ → Bool) (n i : ℕ) (x : Option ℕ) → i < n → f i ≡ true → lowest_free f (n - i) i ≡ x → Some i ≡ x
-lowest_found f n i x h e inv = sym (cond-true _ _ _ e) ∙ sym (lowest_step f n i h) ∙ inv
-
-pub lowest_end : (f : ℕ → Bool) (n i : ℕ) (x : Option ℕ) → n ≤ i → lowest_free f (n - i) i ≡ x → None ≡ x
-unfolding lowest_free
-lowest_end f n i x h inv = let e : n - i ≡ 0 = omega arith in ap (λ (m : ℕ). lowest_free f m i) (sym e) ∙ inv
 
 -- what the search tells of any test
 record Lowest (f : ℕ → Bool) (n b : ℕ) (r : Option ℕ) : Type 0 where
@@ -32,7 +15,7 @@ here : (f : ℕ → Bool) (n b : ℕ) → f b ≡ true → Lowest f (suc n) b (S
 here f n b h =
     record {
       some = λ t e. let q : b ≡ t = cc in (omega arith, ap f (sym q) ∙ h, λ c u v. absurd (omega arith));
-      none = λ e c u v. absurd (let z : ◌≡◌ {A = ℕ} 0 1 = cc in omega arith);
+      none = λ e c u v. cc;
     }
 
 later : (f : ℕ → Bool) (n b : ℕ) (r : Option ℕ) → f b ≡ false → Lowest f n (b + 1) r → Lowest f (suc n) b r
@@ -46,10 +29,9 @@ later f n b r h l =
     from c more u = ⊎_elim (λ (q : b ≡ c). ap f (sym q) ∙ h) (λ (q : b ≡ c → ⊥). more (omega arith)) (cases_eq b c)
 
 lowest_of : (f : ℕ → Bool) (n b : ℕ) → Lowest f n b (lowest_free f n b)
-unfolding lowest_free
 lowest_of f zero b =
     record {
-      some = λ t e. absurd (let z : ◌≡◌ {A = ℕ} 0 1 = cc in omega arith);
+      some = λ t e. cc;
       none = λ e c u v. absurd (omega arith);
     }
 lowest_of f (suc n) b =

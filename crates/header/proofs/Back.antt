@@ -1,43 +1,35 @@
 -- A header that may be logged reads back as what was written.
-use Rattle.std.proofs.Common.{◌≡◌, ℕ, zero, suc, ◌+◌, ◌*◌, ◌/◌, ◌%◌, ◌<◌, ◌≤◌, true, ◌||◌, eqb, ltb, List, [], ◌∷◌, ◌++◌, map, length, get_or, take, drop, Some, sym, refl, ap, ◌∙◌, ⊎_elim, arith, length-append}
-use Rattle.std.specs.List.{range_with_len}
+use Rattle.std.proofs.Common.{◌≡◌, ℕ, zero, suc, ◌+◌, ◌*◌, ◌/◌, ◌%◌, ◌<◌, ◌≤◌, true, ◌||◌, eqb, ltb, List, [], ◌∷◌, ◌++◌, length, get_or, take, drop, Some, sym, refl, ap, ◌∙◌, ⊎_elim, arith}
+use Rattle.std.specs.Int.{w32, w64, to_le_bytes, from_le_bytes}
+use Rattle.std.proofs.lemmas.Nat.{from_le_bytes-to_le_bytes_4, from_le_bytes-to_le_bytes_8}
 use Rattle.std.proofs.lemmas.List.FromFn.{fill_by_all}
-use Rattle.std.proofs.lemmas.List.{append_assoc, take_at, drop_at, get_or-drop, drop-drop, take_all}
+use Rattle.std.proofs.lemmas.List.{append_assoc, drop_at, get_or-drop, drop-drop}
 use Rattle.std.proofs.lemmas.Bool.{lt-ltb, le-ltb, le-leb, eq-eqb, and_from, or_left, or_right, cases_lt}
 use Rattle.layout.specs.declared.sizes.Sizes.{Sizes}
 use Rattle.layout.specs.Sizes.{data_lines_of, within}
 use Rattle.header.specs.declared.Header.{Header}
-use Rattle.header.specs.Bytes.{bytes_of, number_of}
-use Rattle.header.specs.Header.{addresses, written, address_at, field_good, fields_good, good, header_in, read_header, Sensible}
-use Rattle.header.proofs.Numbers.{length-bytes_of, number_bytes}
+use Rattle.header.specs.Header.{addresses, written, address_at, field_good, lines_at, good, header_in, read_header, Sensible}
 use Rattle.header.proofs.Fields.{length-addresses}
-use Rattle.header.proofs.Good.{reads_some}
+use Rattle.header.proofs.Good.{fields_all, reads_some}
 
 -- field i of the addresses of some lines
 address_back : (ls rest : List ℕ) (i : ℕ) → i < length ls → get_or ls i 0 < 65536 → address_at (addresses ls ++ rest) i ≡ 64 * get_or ls i 0
 unfolding address_at addresses
 address_back [] rest i h g = absurd (omega arith)
-address_back (l ∷ ls) rest zero h g =
-    let s = append_assoc (bytes_of 8 (64 * l)) (addresses ls) rest in
-    let t = take_at (bytes_of 8 (64 * l)) (addresses ls ++ rest) 8 (length-bytes_of 8 (64 * l)) in
-    ap (λ (bs : List ℕ). number_of (take 8 bs)) s ∙ ap number_of t ∙ number_bytes 8 (64 * l) (omega arith)
+address_back (l ∷ ls) rest zero h g = from_le_bytes-to_le_bytes_8 (64 * l) (omega arith)
 address_back (l ∷ ls) rest (suc i) h g =
-    let s = append_assoc (bytes_of 8 (64 * l)) (addresses ls) rest in
+    let field : List ℕ = to_le_bytes w64 (64 * l) in
     let e : 8 * suc i ≡ 8 + 8 * i = omega arith in
-    let d = drop_at (bytes_of 8 (64 * l)) (addresses ls ++ rest) 8 (length-bytes_of 8 (64 * l)) in
-    ap (λ (k : ℕ). number_of (take 8 (drop k ((bytes_of 8 (64 * l) ++ addresses ls) ++ rest)))) e
-    ∙ ap (λ (bs : List ℕ). number_of (take 8 bs)) (sym (drop-drop (8 * i) 8 ((bytes_of 8 (64 * l) ++ addresses ls) ++ rest)))
-    ∙ ap (λ (bs : List ℕ). number_of (take 8 (drop (8 * i) bs))) (ap (drop 8) s ∙ d)
+    let s = append_assoc field (addresses ls) rest in
+    let d = drop_at field (addresses ls ++ rest) 8 refl in
+    ap (λ (k : ℕ). from_le_bytes w64 (take 8 (drop k ((field ++ addresses ls) ++ rest)))) e
+    ∙ ap (λ (bs : List ℕ). from_le_bytes w64 (take 8 bs)) (sym (drop-drop (8 * i) 8 ((field ++ addresses ls) ++ rest)))
+    ∙ ap (λ (bs : List ℕ). from_le_bytes w64 (take 8 (drop (8 * i) bs))) (ap (drop 8) s ∙ d)
     ∙ address_back ls rest i (omega arith) g
-
--- a header of seven lines is written as 64 bytes
-pub written_long : (h : Header) → length h.lines ≡ 7 → length (written h) ≡ 64
-unfolding written
-written_long h k = length-append (addresses h.lines) _ ∙ omega (arith, length-addresses h.lines, length-bytes_of 4 h.number)
 
 -- what stands behind the address fields
 rest : Header → List ℕ
-rest h = h.count ∷ h.core ∷ h.before ∷ 0 ∷ bytes_of 4 h.number
+rest h = h.count ∷ h.core ∷ h.before ∷ 0 ∷ to_le_bytes w32 h.number
 
 drop-56 : (h : Header) → length h.lines ≡ 7 → drop 56 (written h) ≡ rest h
 unfolding written rest
@@ -45,11 +37,11 @@ drop-56 h k = drop_at (addresses h.lines) _ 56 (length-addresses h.lines ∙ ome
 
 -- each line is a 16-bit number
 abbrev pub Small : Header → Type 0
-Small h = (i : ℕ) → get_or h.lines i 0 < 65536
+Small h = (i : ℕ) → i < 7 → get_or h.lines i 0 < 65536
 
 -- where D is a 16-bit number, the lines of a header that may be logged are too
 pub small_lines : (s : Sizes) (h : Header) → Sensible s h → data_lines_of s < 65536 → Small h
-small_lines s h k d i =
+small_lines s h k d i _ =
     ⊎_elim (λ (q : i < h.count). let u = k.used i q in omega arith) (λ (q : h.count ≤ i). let u = k.unused i q in omega arith) (cases_lt i h.count)
 
 fields_same : (l m : List ℕ) (a b c d e f g i : ℕ) → l ≡ m → a ≡ b → c ≡ d → e ≡ f → g ≡ i
@@ -60,16 +52,15 @@ module _ (s : Sizes) (h : Header) (k : Sensible s h) (w : Small h) where
   rest_at : (i : ℕ) → get_or (written h) (56 + i) 0 ≡ get_or (rest h) i 0
   rest_at i = sym (get_or-drop 56 (written h) i 0) ∙ ap (λ (xs : List ℕ). get_or xs i 0) (drop-56 h k.seven)
 
-  number_back : number_of (take 4 (drop 60 (written h))) ≡ h.number
+  number_back : from_le_bytes w32 (drop 60 (written h)) ≡ h.number
   unfolding rest
   number_back =
-      let d : drop 60 (written h) ≡ bytes_of 4 h.number = sym (drop-drop 4 56 (written h)) ∙ ap (drop 4) (drop-56 h k.seven) in
-      let t : take 4 (bytes_of 4 h.number) ≡ bytes_of 4 h.number = take_all 4 (bytes_of 4 h.number) (omega (arith, length-bytes_of 4 h.number)) in
-      ap (λ (xs : List ℕ). number_of (take 4 xs)) d ∙ ap number_of t ∙ number_bytes 4 h.number (omega (arith, k.number))
+      let d : drop 60 (written h) ≡ to_le_bytes w32 h.number = sym (drop-drop 4 56 (written h)) ∙ ap (drop 4) (drop-56 h k.seven) in
+      ap (from_le_bytes w32) d ∙ from_le_bytes-to_le_bytes_4 h.number k.number
 
   address_is : (i : ℕ) → i < 7 → address_at (written h) i ≡ 64 * get_or h.lines i 0
   unfolding written
-  address_is i lt = address_back h.lines _ i (omega (arith, k.seven)) (w i)
+  address_is i lt = address_back h.lines _ i (omega (arith, k.seven)) (w i lt)
 
   -- a field is good, used or not
   as_used : (i : ℕ) → i < h.count → field_good s (ltb i h.count) (64 * get_or h.lines i 0) ≡ true
@@ -81,13 +72,9 @@ module _ (s : Sizes) (h : Header) (k : Sensible s h) (w : Small h) where
   as_unused : (i : ℕ) → h.count ≤ i → field_good s (ltb i h.count) (64 * get_or h.lines i 0) ≡ true
   as_unused i q = let u = k.unused i q in rw (le-ltb i h.count q) (eq-eqb (64 * get_or h.lines i 0) 0 (omega arith))
 
-  field_good_lem : (i : ℕ) → i < 7 → field_good s (ltb i h.count) (address_at (written h) i) ≡ true
-  field_good_lem i lt = ap (field_good s (ltb i h.count)) (address_is i lt) ∙ ⊎_elim (as_used i) (as_unused i) (cases_lt i h.count)
-
-  fields_good_lem : (m : ℕ) → m ≤ 7 → fields_good s h.count (written h) m ≡ true
-  unfolding fields_good
-  fields_good_lem zero l = refl
-  fields_good_lem (suc m) l = and_from _ _ (field_good_lem m (omega arith)) (fields_good_lem m (omega arith))
+  field_good_lem : (i : ℕ) → i < 7 → field_good s (ltb i (get_or (written h) 56 0)) (address_at (written h) i) ≡ true
+  unfolding rest
+  field_good_lem i lt = rw (rest_at 0, address_is i lt) (⊎_elim (as_used i) (as_unused i) (cases_lt i h.count))
 
   before_good : (eqb h.before 255 || ltb h.before s.buckets) ≡ true
   before_good =
@@ -99,10 +86,11 @@ module _ (s : Sizes) (h : Header) (k : Sensible s h) (w : Small h) where
   written_good =
       let count : within 1 7 h.count ≡ true = and_from _ _ (le-leb 1 h.count k.some) (le-leb h.count 7 k.most) in
       let core : ltb h.core s.cores ≡ true = lt-ltb h.core s.cores k.core in
-      rw (rest_at 0, rest_at 1, rest_at 2, rest_at 3)
-      (and_from _ _ (and_from _ _ (and_from _ _ (and_from _ _ count core) before_good) refl) (fields_good_lem 7 (omega arith)))
+      and_from _ _ (rw (rest_at 0, rest_at 1, rest_at 2, rest_at 3) (and_from _ _ (and_from _ _ (and_from _ _ count core) before_good) refl))
+      (fields_all s (written h) field_good_lem)
 
-  lines_back : h.lines ≡ map (λ i. address_at (written h) i / 64) (range_with_len 0 7)
+  lines_back : h.lines ≡ lines_at (written h)
+  unfolding lines_at
   lines_back = fill_by_all (λ (i : ℕ). address_at (written h) i / 64) h.lines 7 0 k.seven (λ i lt. let a = address_is i lt in omega arith)
 
   pub reads_back : read_header s (written h) ≡ Some h

@@ -1,46 +1,54 @@
 -- What a good header says of its fields.
-use Rattle.std.proofs.Common.{◌≡◌, ℕ, zero, suc, ◌+◌, ◌*◌, ◌/◌, ◌%◌, ◌^◌, ◌<◌, ◌≤◌, Bool, true, false, cond, ◌||◌, eqb, ltb, ◌⊎◌, List, [], ◌∷◌, ◌++◌, map, length, get_or, take, set, Some, None, sym, refl, ap, ◌∙◌, subst, inl, inr, ⊎_elim, add-one, arith}
+use Rattle.std.proofs.Common.{◌≡◌, ℕ, ◌*◌, ◌/◌, ◌%◌, ◌^◌, ◌<◌, ◌≤◌, Bool, true, false, cond, ◌||◌, eqb, ltb, ◌⊎◌, List, [], map, length, get_or, Some, None, sym, refl, ap, ◌∙◌, subst, inl, inr, ⊎_elim, arith, zero-add}
 use Rattle.std.specs.List.{range_with_len}
-use Rattle.std.proofs.lemmas.List.FromFn.{map-range_with_len_more, get_or-map-range_with_len, length-map-range_with_len}
-use Rattle.std.proofs.lemmas.List.{take_more_set, get_or_past}
-use Rattle.std.proofs.lemmas.Bool.{and_parts, and_from, or_cases, cases_Bool, cases_lt, cases_eq, both_ways, eqb-true, ltb-true, leb-true, cond-true, cond-false, lt-ltb, le-ltb}
+use Rattle.std.proofs.lemmas.List.Sums.{AllPass-from_list_all, list_all-from_AllPass}
+use Rattle.std.proofs.lemmas.List.FromFn.{fill_by_all, get_or-range_with_len, get_or-map-range_with_len, length-map-range_with_len}
+use Rattle.std.proofs.lemmas.List.{get_or_past}
+use Rattle.std.proofs.lemmas.Option.{cond_some}
+use Rattle.std.proofs.lemmas.Bool.{and_parts, or_cases, cases_Bool, cases_lt, both_ways, eqb-true, ltb-true, leb-true, cond-true, cond-false, lt-ltb, le-ltb}
 use Rattle.layout.specs.declared.sizes.Sizes.{Sizes}
 use Rattle.layout.specs.Sizes.{data_lines_of}
 use Rattle.header.specs.declared.Header.{Header}
-use Rattle.header.specs.Bytes.{Line}
-use Rattle.header.specs.Header.{field_good, fields_good, address_at, read_header, good, rest_good, header_in, Sensible}
+use Rattle.header.specs.Header.{Line, field_good, line_in, fields_good, lines_at, lines_in, address_at, read_header, good, rest_good, header_in, Sensible}
 
--- the address fields, one by one
-pub fields_none : (s : Sizes) (n : ℕ) (bs : Line) → fields_good s n bs 0 ≡ true
-unfolding fields_good
-fields_none s n bs = refl
+-- where an answer that hangs on a test is None
+pub failed : {X : Type 0} (t : Bool) (x : X) → None ≡ cond t (Some x) None → t ≡ false
+failed true x e = cc
+failed false x e = refl
 
-pub fields_more : (s : Sizes) (n : ℕ) (bs : Line) (i : ℕ) → field_good s (ltb i n) (address_at bs i) ≡ true → fields_good s n bs i ≡ true → fields_good s n bs (i + 1) ≡ true
-unfolding fields_good
-fields_more s n bs i a b = rw add-one (and_from _ _ a b)
+module _ (s : Sizes) (bs : Line) where
+  abbrev pub Good : ℕ → Type 0
+  Good i = field_good s (ltb i (get_or bs 56 0)) (address_at bs i) ≡ true
 
-pub fields_at : (s : Sizes) (n : ℕ) (bs : Line) (m i : ℕ) → i < m → fields_good s n bs m ≡ true → field_good s (ltb i n) (address_at bs i) ≡ true
-unfolding fields_good
-fields_at s n bs zero i h a = absurd (omega arith)
-fields_at s n bs (suc m) i h a =
-    let p = and_parts (field_good s (ltb m n) (address_at bs m)) (fields_good s n bs m) a in
-    ⊎_elim (λ (q : i ≡ m). subst (λ (k : ℕ). field_good s (ltb k n) (address_at bs k) ≡ true) (sym q) p.0) (λ (q : i ≡ m → ⊥). fields_at s n bs m i (omega arith) p.1) (cases_eq i m)
+  pub fields_at : fields_good s bs ≡ true → (i : ℕ) → i < 7 → Good i
+  unfolding fields_good
+  fields_at h i lt =
+      rw (get_or-range_with_len 0 7 i 0 lt, zero-add i) at (AllPass-from_list_all (λ i. field_good s (ltb i (get_or bs 56 0)) (address_at bs i)) (range_with_len 0 7) h i 0 lt)
 
--- one field that is not good
-pub fields_fail : (s : Sizes) (n : ℕ) (bs : Line) (m i : ℕ) → i < m → field_good s (ltb i n) (address_at bs i) ≡ false → false ≡ fields_good s n bs m
-fields_fail s n bs m i h a = ⊎_elim (λ (q : fields_good s n bs m ≡ true). absurd (both_ways _ a (fields_at s n bs m i h q))) (λ (q : fields_good s n bs m ≡ false). sym q) (cases_Bool (fields_good s n bs m))
+  pub fields_all : ((i : ℕ) → i < 7 → Good i) → fields_good s bs ≡ true
+  unfolding fields_good
+  fields_all h =
+      list_all-from_AllPass (λ i. field_good s (ltb i (get_or bs 56 0)) (address_at bs i)) (range_with_len 0 7)
+      (λ i d lt. rw (get_or-range_with_len 0 7 i d lt, zero-add i) (h i lt))
+
+  -- one field that is not good
+  pub fields_fail : (i : ℕ) → i < 7 → field_good s (ltb i (get_or bs 56 0)) (address_at bs i) ≡ false → fields_good s bs ≡ false
+  fields_fail i h a = ⊎_elim (λ (q : fields_good s bs ≡ true). absurd (both_ways _ a (fields_at q i h))) (λ (q : fields_good s bs ≡ false). q) (cases_Bool (fields_good s bs))
+
+-- the lines of seven good fields
+pub lines_read : (s : Sizes) (bs : Line) (ls : List ℕ) → length ls ≡ 7 → ((i : ℕ) → i < 7 → Good s bs i)
+    → ((i : ℕ) → i < 7 → get_or ls i 0 ≡ address_at bs i / 64) → Some ls ≡ lines_in s bs
+unfolding lines_at
+lines_read s bs ls l g h =
+    ap (λ (ls : List ℕ). Some ls) (fill_by_all (λ (i : ℕ). address_at bs i / 64) ls 7 0 l h) ∙ sym (cond-true _ _ _ (fields_all s bs g))
+
+pub lines_declined : (s : Sizes) (bs : Line) (i : ℕ) → i < 7 → None ≡ line_in s (ltb i (get_or bs 56 0)) (address_at bs i) → None ≡ lines_in s bs
+lines_declined s bs i h e = sym (cond-false _ _ _ (fields_fail s bs i h (failed _ _ e)))
 
 -- a good field is a line's address
 pub field_line : (s : Sizes) (u : Bool) (a : ℕ) → field_good s u a ≡ true → 64 * (a / 64) ≡ a
 field_line s true a h = let q = eqb-true (a % 64) 0 (and_parts (eqb (a % 64) 0) (ltb a (64 * data_lines_of s)) h).0 in omega arith
 field_line s false a h = let q = eqb-true a 0 h in omega arith
-
--- one more line, at its place
-pub lines_more : (bs : Line) (ls : List ℕ) (i x : ℕ) → i < length ls → x ≡ address_at bs i → take i ls ≡ map (λ i. address_at bs i / 64) (range_with_len 0 i)
-    → take (i + 1) (set ls i (x / 64)) ≡ map (λ i. address_at bs i / 64) (range_with_len 0 (i + 1))
-lines_more bs ls i x h e a =
-    take_more_set ls i (x / 64) h ∙ ap (λ (zs : List ℕ). zs ++ (x / 64 ∷ [])) a ∙ ap (λ (y : ℕ). map (λ i. address_at bs i / 64) (range_with_len 0 i) ++ (y / 64 ∷ [])) e
-    ∙ sym (map-range_with_len_more (λ (i : ℕ). address_at bs i / 64) 0 i i (omega arith))
 
 -- bytes that are not good are declined, good ones are read
 pub reads_none : (s : Sizes) (bs : Line) → good s bs ≡ false → None ≡ read_header s bs
@@ -54,11 +62,7 @@ reads_some s bs h g e = ap (λ (h : Header). Some h) e ∙ sym (cond-true _ _ _ 
 -- and a header that is read is that in good bytes
 pub good_from_read : (s : Sizes) (bs : Line) (h : Header) → read_header s bs ≡ Some h → (good s bs ≡ true) × (h ≡ header_in bs)
 unfolding read_header
-good_from_read s bs h = go (good s bs)
-  where
-    go : (t : Bool) → cond t (Some (header_in bs)) None ≡ Some h → (t ≡ true) × (h ≡ header_in bs)
-    go true e = (refl, cc)
-    go false e = absurd (let z : ◌≡◌ {A = ℕ} 0 1 = cc e in omega arith)
+good_from_read s bs h e = let (g, same) = cond_some (good s bs) (header_in bs) h e in (g, sym same)
 
 -- no bytes are no header
 pub reads_nothing : (s : Sizes) → read_header s [] ≡ None
@@ -77,9 +81,9 @@ before_from s b h = ⊎_elim (λ (q : eqb b 255 ≡ true). inl (eqb-true b 255 q
 
 -- good bytes hold a header that may be logged
 sensible_in : (s : Sizes) (bs : Line) → (header_in bs).number < 2 ^ 32 → good s bs ≡ true → Sensible s (header_in bs)
-unfolding good header_in
+unfolding good header_in lines_at
 sensible_in s bs small g =
-    let (rest, fields) = and_parts (rest_good s bs) (fields_good s (get_or bs 56 0) bs 7) g in
+    let (rest, fields) = and_parts (rest_good s bs) (fields_good s bs) g in
     let (p, zero') = and_parts _ _ rest in
     let (q, before) = and_parts _ _ p in
     let (range, core) = and_parts _ _ q in
@@ -89,7 +93,7 @@ sensible_in s bs small g =
       seven = length-map-range_with_len line 0 7;
       some = leb-true 1 (get_or bs 56 0) low;
       most = most;
-      used = λ i lt. rw (get_or-map-range_with_len line 0 7 i i 0 (omega arith) (omega arith)) (line_used s (address_at bs i) (rw (lt-ltb i (get_or bs 56 0) lt) at (fields_at s (get_or bs 56 0) bs 7 i (omega arith) fields)));
+      used = λ i lt. rw (get_or-map-range_with_len line 0 7 i i 0 (omega arith) (omega arith)) (line_used s (address_at bs i) (rw (lt-ltb i (get_or bs 56 0) lt) at (fields_at s bs fields i (omega arith))));
       unused = λ i le. past i le (cases_lt i 7) fields;
       core = ltb-true (get_or bs 57 0) s.cores core;
       before = before_from s (get_or bs 58 0) before;
@@ -99,8 +103,8 @@ sensible_in s bs small g =
     line : ℕ → ℕ
     line i = address_at bs i / 64
 
-    past : (i : ℕ) → get_or bs 56 0 ≤ i → (i < 7) ⊎ (7 ≤ i) → fields_good s (get_or bs 56 0) bs 7 ≡ true → get_or (map line (range_with_len 0 7)) i 0 ≡ 0
-    past i le (inl lt) fields = get_or-map-range_with_len line 0 7 i i 0 lt (omega arith) ∙ line_unused s (address_at bs i) (rw (le-ltb i (get_or bs 56 0) le) at (fields_at s (get_or bs 56 0) bs 7 i lt fields))
+    past : (i : ℕ) → get_or bs 56 0 ≤ i → (i < 7) ⊎ (7 ≤ i) → fields_good s bs ≡ true → get_or (map line (range_with_len 0 7)) i 0 ≡ 0
+    past i le (inl lt) fields = get_or-map-range_with_len line 0 7 i i 0 lt (omega arith) ∙ line_unused s (address_at bs i) (rw (le-ltb i (get_or bs 56 0) le) at (fields_at s bs fields i lt))
     past i le (inr ge) fields = get_or_past (map line (range_with_len 0 7)) i 0 (omega (arith, length-map-range_with_len line 0 7))
 
 -- a header that is read may be logged

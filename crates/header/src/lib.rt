@@ -2,13 +2,12 @@
 // very bytes.
 #![tactic(auto)]
 
-ghost use Rattle.std.specs.Prelude.{◌≡◌, ℕ, ◌+◌, ◌/◌, ◌<◌, ◌≤◌, true, map, length, take, Some, slice_index};
-ghost use Rattle.std.specs.List.{range_with_len};
-ghost use Rattle.header.specs.Bytes.{patched};
-ghost use Rattle.header.specs.Header.{addresses, written, address_at, field_good, fields_good, rest_good, read_header, Sensible};
+ghost use Rattle.std.specs.Prelude.{◌≡◌, Some};
+ghost use Rattle.header.specs.Header.{written, line_in, lines_in, rest_good, read_header, Sensible};
 
-use layout::Sizes;
+use layout::{NO_BUCKET, Sizes};
 
+// Seven lines and a count, as the format has seven address fields and a count.
 #[derive(Clone, Copy, PartialEq, Eq, Debug)]
 pub struct Header {
     // the data line of each entry, 0 for those not used
@@ -16,7 +15,7 @@ pub struct Header {
     // entries used
     pub count: u8,
     pub core: u8,
-    // the bucket before this one in the same update, 255 for the first
+    // the bucket before this one in the same update, `NO_BUCKET` for the first: byte 58 of the format, by the rules
     pub before: u8,
     // the number of the record in its update, from 0
     pub number: u32,
@@ -28,47 +27,32 @@ pub fn encode(header: &Header) -> [u8; 64]
     ensures back { (s : Sizes) → Sensible s header.now → read_header s result ≡ Some header.now }
 {
     let mut bytes = [0; 64];
-    put_addresses(&mut bytes, &header.lines);
-    let [a, b, c, d] = header.number.to_le_bytes();
-    let rest = [header.count, header.core, header.before, 0, a, b, c, d];
-    put(&mut bytes, 56, &rest);
+    // a loan of the chunks themselves would tell a proof nothing of what they hold after it
+    for (i, line) in header.lines.iter().enumerate() {
+        let address = 64 * u64::from(*line);
+        bytes[8 * i..8 * i + 8].copy_from_slice(&address.to_le_bytes());
+    }
+    bytes[56..60].copy_from_slice(&[header.count, header.core, header.before, 0]);
+    bytes[60..].copy_from_slice(&header.number.to_le_bytes());
     bytes
 }
 
-// Puts the address of each line into its field.
-fn put_addresses(bytes: &mut [u8; 64], lines: &[u16; 7])
-    ensures put { take 56 bytes.new ≡ addresses lines.now }
-    ensures fits { (i : ℕ) → slice_index lines.now i < 65536 }
-{
-    for i in 0..7 {
-        let address = 64 * lines[i] as u64;
-        put(bytes, i * 8, &address.to_le_bytes());
-    }
-}
-
-// Puts some bytes in at an offset.
-fn put(bytes: &mut [u8; 64], at: usize, new: &[u8])
-    requires { at + length new.now ≤ 64 }
-    ensures { bytes.new ≡ patched bytes.old at new.now }
-{
-    bytes[at..at + new.len()].copy_from_slice(new);
-}
-
-// The header in some bytes, if they are a good one.
+// The header in some bytes, if they are a good one: by what is good for some sizes, so it is no `TryFrom`.
 pub fn decode(sizes: &Sizes, bytes: &[u8; 64]) -> Option<Header>
     ensures read { result ≡ read_header sizes.now bytes.now }
     ensures again { (h : Header) → result ≡ Some h → Sensible sizes.now h × (written h ≡ bytes.now) }
 {
-    if !rest_good(sizes, bytes) || !fields_good(sizes, bytes) {
+    if !rest_good(sizes, bytes) {
         return None;
     }
-    let number = u32::from_le_bytes([bytes[60], bytes[61], bytes[62], bytes[63]]);
+    let lines = lines_in(sizes, bytes)?;
+    let [.., count, core, before, _, a, b, c, d] = *bytes;
     Some(Header {
-        lines: lines_in(bytes),
-        count: bytes[56],
-        core: bytes[57],
-        before: bytes[58],
-        number,
+        lines,
+        count,
+        core,
+        before,
+        number: u32::from_le_bytes([a, b, c, d]),
     })
 }
 
@@ -76,64 +60,38 @@ pub fn decode(sizes: &Sizes, bytes: &[u8; 64]) -> Option<Header>
 fn rest_good(sizes: &Sizes, bytes: &[u8; 64]) -> bool
     ensures { result ≡ rest_good sizes.now bytes.now }
 {
-    1 <= bytes[56]
-        && bytes[56] <= 7
-        && bytes[57] < sizes.cores
-        && (bytes[58] == 255 || bytes[58] < sizes.buckets)
-        && bytes[59] == 0
+    let [.., count, core, before, zero, _, _, _, _] = *bytes;
+    (1..=7).contains(&count)
+        && core < sizes.cores
+        && (before == NO_BUCKET || before < sizes.buckets)
+        && zero == 0
 }
 
-// The seven address fields are good.
-fn fields_good(sizes: &Sizes, bytes: &[u8; 64]) -> bool
-    ensures test { result ≡ fields_good sizes.now (slice_index bytes.now 56) bytes.now 7 }
-    ensures fits { result ≡ true → (i : ℕ) → i < 7 → address_at bytes.now i / 64 < 65536 }
+// The lines of the address fields, if each field is good.
+fn lines_in(sizes: &Sizes, bytes: &[u8; 64]) -> Option<[u16; 7]>
+    ensures { result ≡ lines_in sizes.now bytes.now }
 {
-    for i in 0..7 {
-        if !field_good(sizes, i < bytes[56] as usize, address_at(bytes, i)) {
-            return false;
-        }
+    let count = usize::from(bytes[56]);
+    let (fields, _) = bytes.as_chunks::<8>();
+    let mut lines = [0; 7];
+    for (i, line) in lines.iter_mut().enumerate() {
+        *line = line_in(sizes, i < count, u64::from_le_bytes(fields[i]))?;
     }
-    true
+    Some(lines)
 }
 
-// A used address is that of a data line, an unused one is 0.
-fn field_good(sizes: &Sizes, used: bool, address: u64) -> bool
-    ensures test { result ≡ field_good sizes.now used address }
-    ensures fits { result ≡ true → address / 64 < 65536 }
+// The line of an address field: of a used one a data line, and of an unused one 0.
+fn line_in(sizes: &Sizes, used: bool, address: u64) -> Option<u16>
+    ensures { result ≡ line_in sizes.now used address }
 {
-    if used {
-        address % 64 == 0 && address < 64 * sizes.data_lines as u64
+    let is_good = if used {
+        address % 64 == 0 && address < 64 * u64::from(sizes.data_lines)
     } else {
         address == 0
+    };
+    if is_good {
+        u16::try_from(address / 64).ok()
+    } else {
+        None
     }
-}
-
-// The lines of the address fields.
-fn lines_in(bytes: &[u8; 64]) -> [u16; 7]
-    requires { (i : ℕ) → i < 7 → address_at bytes.now i / 64 < 65536 }
-    ensures { result ≡ map (λ i. address_at bytes.now i / 64) (range_with_len 0 7) }
-{
-    let mut lines = [0; 7];
-    for i in 0..7 {
-        lines[i] = (address_at(bytes, i) / 64) as u16;
-    }
-    lines
-}
-
-// The address in field i.
-fn address_at(bytes: &[u8; 64], i: usize) -> u64
-    requires { i < 7 }
-    ensures { result ≡ address_at bytes.now i }
-{
-    let at = i * 8;
-    u64::from_le_bytes([
-        bytes[at],
-        bytes[at + 1],
-        bytes[at + 2],
-        bytes[at + 3],
-        bytes[at + 4],
-        bytes[at + 5],
-        bytes[at + 6],
-        bytes[at + 7],
-    ])
 }

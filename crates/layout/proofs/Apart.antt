@@ -1,10 +1,9 @@
 -- Every line of a record is its own: behind the data lines, within the memory, and of no other record.
 use Rattle.std.proofs.Common.{◌≡◌, ℕ, ◌+◌, ◌*◌, ◌/◌, ◌%◌, ◌<◌, ◌≤◌, sym, ap, ◌∙◌, arith}
 use lib.Arith.{digits_lt, digits_div, digits_mod}
-use Rattle.std.proofs.lemmas.Nat.{mul-le}
 use Rattle.layout.specs.declared.sizes.Sizes.{Sizes}
 use Rattle.layout.specs.Sizes.{lines_needed}
-use Rattle.layout.specs.Places.{header_line, entry_line, Apart}
+use Rattle.layout.specs.Places.{entry_line, Apart}
 
 lines_alone : (s : Sizes) (b r i b' r' i' : ℕ) → r < s.records → r' < s.records → i ≤ 7 → i' ≤ 7
     → entry_line s b r i ≡ entry_line s b' r' i' → (b ≡ b') × (r ≡ r') × (i ≡ i')
@@ -20,7 +19,3 @@ lines_inside s b r i h k g = let p : b * s.records + r < s.buckets * s.records =
 
 pub lines_apart : (s : Sizes) (b r i : ℕ) → Apart s b r i
 lines_apart s b r i = record { behind = omega arith; inside = lines_inside s b r i; alone = lines_alone s b r i }
-
--- the largest number that comes out as a header's line
-pub header_most : (s : Sizes) (b r : ℕ) → s.data_lines ≤ 65535 → b ≤ 255 → s.records ≤ 255 → r ≤ 255 → header_line s b r ≤ 587775
-header_most s b r d h k g = let p = mul-le b s.records 255 255 h k in omega arith

@@ -112,7 +112,3 @@ module _ (s : Sizes) (v : ℕ) (es : List BlockEntry) (i : ℕ) (d : BlockEntry)
 pub walk_end : (s : Sizes) (v : ℕ) (es : List BlockEntry) (i : ℕ) (x : Bool) → length es ≤ i → all_sound s v (drop i es) ≡ x → true ≡ x
 unfolding all_sound
 walk_end s v es i x h inv = sym (at_drop_all (all_sound s v) es i h) ∙ inv
-
--- with an entry for each core, the test of the entries is that of the block
-pub block_test : (s : Sizes) (es : List BlockEntry) → length es ≡ s.cores → all_sound s 0 es ≡ block_sound s es
-block_test s es h = ap (λ (t : Bool). t && all_sound s 0 es) (sym (eq-eqb (length es) s.cores h))

@@ -1,7 +1,11 @@
 -- Where the records of the log lie in the memory.
 use Rattle.std.specs.Prelude.{◌≡◌, ℕ, ◌+◌, ◌*◌, ◌<◌, ◌≤◌, Bool, ◌&&◌, nat_lt}
+use Rattle.layout.specs.declared.places.RecordId.{RecordId}
 use Rattle.layout.specs.declared.sizes.Sizes.{Sizes}
 use Rattle.layout.specs.Sizes.{data_lines_of, lines_needed}
+
+abbrev pub record_id : ℕ → ℕ → RecordId
+record_id b r = record { bucket = b; slot = r }
 
 -- the line of the header of record r of bucket b: eight lines to a record, behind the data lines
 abbrev pub header_line : Sizes → ℕ → ℕ → ℕ

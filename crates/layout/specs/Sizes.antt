@@ -1,5 +1,5 @@
 -- The sizes of a log, their ranges, and the lines that they ask of a memory.
-use Rattle.std.specs.Prelude.{ℕ, ◌+◌, ◌*◌, Bool, ◌&&◌, ◌==◌, nat_le}
+use Rattle.std.specs.Prelude.{ℕ, ◌+◌, ◌*◌, ◌≤◌, Bool, ◌&&◌, ◌==◌, nat_le}
 use Rattle.layout.specs.declared.sizes.Sizes.{Sizes}
 
 abbrev pub within : ℕ → ℕ → ℕ → Bool
@@ -24,3 +24,10 @@ lines_needed s = data_lines_of s + 8 * (s.buckets * s.records)
 -- each size is in its range, and the memory has just the lines needed
 abbrev pub sizes_fit : Sizes → ℕ → Bool
 sizes_fit s lines = in_range s && lines == lines_needed s
+
+-- no size is past its range
+pub record Bounded (s : Sizes) : Type 0 where
+  pub lines : data_lines_of s ≤ 512
+  pub buckets : s.buckets ≤ 32
+  pub records : s.records ≤ 4
+  pub cores : s.cores ≤ 32

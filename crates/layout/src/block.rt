@@ -4,23 +4,27 @@ ghost use Rattle.layout.specs.Block.{empty, has, buckets_in, records_of, entry_s
 
 use crate::Sizes;
 
+// Stands where there is no bucket to name: the number is the rules', in the block and in a header.
+pub const NO_BUCKET: u8 = 255;
+
 #[derive(Clone, Copy, PartialEq, Eq, Debug)]
 pub struct BlockEntry {
     // bit b for bucket b
     pub vector: u32,
+    // the bucket of the newest closed record, `NO_BUCKET` for none: a number by the rules, so no `Option`
     pub current: u8,
     // records closed in the current bucket
     pub closed: u8,
 }
 
 impl BlockEntry {
-    // The entry of a core without closed records.
+    // The entry of a core without closed records: 0, 255, 0 by the rules, so `Default` is not derived.
     pub fn empty() -> BlockEntry
         ensures { result ≡ empty }
     {
         BlockEntry {
             vector: 0,
-            current: 255,
+            current: NO_BUCKET,
             closed: 0,
         }
     }
@@ -36,32 +40,41 @@ impl BlockEntry {
     pub fn records(&self, sizes: &Sizes) -> u32
         ensures { (result ≡ records_of sizes.now self.now) × (result ≤ 8160) }
     {
-        self.buckets().saturating_sub(1) * sizes.records as u32 + self.closed as u32
+        u32::from(self.closed) + self.buckets().saturating_sub(1) * u32::from(sizes.records)
+    }
+
+    // The vector has a bucket.
+    pub fn has_bucket(&self, bucket: u8) -> bool
+        ensures { result ≡ has self.now.vector bucket }
+    {
+        let vector = self.vector;
+        bucket < 32 && (vector >> bucket) % 2 == 1
+    }
+
+    // The vector has buckets below a number only.
+    fn is_below(&self, buckets: u8) -> bool
+        ensures { result ≡ nat_lt self.now.vector (2 ^ buckets) }
+    {
+        let vector = self.vector;
+        buckets >= 32 || vector >> buckets == 0
     }
 
     fn is_sound(&self, sizes: &Sizes) -> bool
         ensures { result ≡ entry_sound sizes.now self.now }
     {
-        (self.vector == 0 && self.current == 255 && self.closed == 0)
-            || (is_below(self.vector, sizes.buckets)
-                && has_bucket(self.vector, self.current)
-                && 1 <= self.closed
-                && self.closed <= sizes.records)
+        *self == BlockEntry::empty()
+            || (self.is_below(sizes.buckets)
+                && self.has_bucket(self.current)
+                && (1..=sizes.records).contains(&self.closed))
     }
 }
 
-// A vector has a bucket.
-pub fn has_bucket(vector: u32, bucket: u8) -> bool
-    ensures { result ≡ has vector bucket }
-{
-    bucket < 32 && (vector >> bucket) % 2 == 1
-}
+impl Default for BlockEntry {
+    ghost is_default = { λ e. e ≡ empty };
 
-// A vector has buckets below a number only.
-fn is_below(vector: u32, buckets: u8) -> bool
-    ensures { result ≡ nat_lt vector (2 ^ buckets) }
-{
-    buckets >= 32 || vector >> buckets == 0
+    fn default() -> BlockEntry {
+        BlockEntry::empty()
+    }
 }
 
 // The entries are a block: one for each core, each empty or sound, and no bucket in two of them.
@@ -69,7 +82,7 @@ pub fn is_block(sizes: &Sizes, entries: &[BlockEntry]) -> bool
     ensures test { result ≡ block_sound sizes.now entries.now }
     ensures rules { result ≡ true → BlockRules sizes.now entries.now }
 {
-    entries.len() == sizes.cores as usize && all_sound(sizes, entries)
+    entries.len() == usize::from(sizes.cores) && all_sound(sizes, entries)
 }
 
 fn all_sound(sizes: &Sizes, entries: &[BlockEntry]) -> bool

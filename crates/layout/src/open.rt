@@ -1,9 +1,10 @@
 // A record that is not yet closed, as a core has it at hand.
-#[derive(Clone, Copy)]
+use crate::RecordId;
+
+// Seven lines and a count, as in the header that it becomes; `Copy`, for a fixed table.
+#[derive(Clone, Copy, PartialEq, Eq, Debug)]
 pub struct OpenRecord {
-    pub bucket: u8,
-    // its number in the bucket
-    pub slot: u8,
+    pub id: RecordId,
     // entries so far
     pub count: u8,
     // the data line of each entry, 0 for those to come

@@ -2,7 +2,7 @@
 ghost use Rattle.std.specs.Prelude.{◌≡◌};
 ghost use Rattle.layout.specs.Sizes.{in_range, lines_needed, sizes_fit};
 
-#[derive(Clone, Copy, PartialEq, Eq, Debug)]
+#[derive(Clone, Copy, PartialEq, Eq, Debug, Default)]
 pub struct Sizes {
     pub data_lines: u16,
     pub buckets: u8,
@@ -17,23 +17,18 @@ impl Sizes {
     pub fn in_range(&self) -> bool
         ensures { result ≡ in_range self.now }
     {
-        1 <= self.data_lines
-            && self.data_lines <= 512
-            && 1 <= self.buckets
-            && self.buckets <= 32
-            && 1 <= self.records
-            && self.records <= 4
-            && 1 <= self.cores
-            && self.cores <= 32
-            && 1 <= self.cache_lines
-            && self.cache_lines <= 64
+        (1..=512).contains(&self.data_lines)
+            && (1..=32).contains(&self.buckets)
+            && (1..=4).contains(&self.records)
+            && (1..=32).contains(&self.cores)
+            && (1..=64).contains(&self.cache_lines)
     }
 
     // How many lines a memory of these sizes has: the data lines, and eight for each record.
     pub fn lines_needed(&self) -> usize
         ensures { result ≡ lines_needed self.now }
     {
-        self.data_lines as usize + 8 * (self.buckets as usize * self.records as usize)
+        usize::from(self.data_lines) + 8 * (usize::from(self.buckets) * usize::from(self.records))
     }
 
     // Each size is in its range, and a memory of so many lines has just those needed.

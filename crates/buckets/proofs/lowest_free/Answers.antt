@@ -1,25 +1,15 @@
-use Rattle.std.proofs.Common.{◌≡◌, Some, None, sym}
+use Rattle.std.proofs.Common.{◌≡◌, sym, ◌∙◌, refl, rules, arith}
+use borrow.Author.Tests.{tests}
+use Rattle.std.proofs.lemmas.Iterator.{YieldsList-from_range}
+use Rattle.std.proofs.lemmas.Iterator.Search.{find_from_yields_List}
+use Rattle.std.proofs.lemmas.Iterator.Adapters.{option_map_id}
 use Rattle.buckets.specs.Buckets.{free, lowest_free}
-use Rattle.buckets.proofs.Searches.{lowest_start, lowest_more, lowest_found, lowest_end, lowest_free_lem}
+use Rattle.buckets.proofs.Searches.{lowest_free_lem}
 use Rattle.buckets.proofs.lowest_free.Goals as goal
-
-pub loop-bucket-init : goal.loop-bucket-init
-loop-bucket-init c = lowest_start (free c.args.block.now c.args.«open».now) c.args.buckets
-
-pub loop-bucket-preserved : goal.loop-bucket-preserved
-loop-bucket-preserved c =
-    lowest_more (free c.args.block.now c.args.«open».now) c.args.buckets c.loop-bucket.bucket _ c.loop-bucket-test.true
-    (sym c.if-is_free.ensures) c.loop-bucket.invariant
-
-pub returns-then-is_free : goal.returns-then-is_free
-returns-then-is_free c =
-    let found : Some c.loop-bucket.bucket ≡ lowest_free (free c.args.block.now c.args.«open».now) c.args.buckets 0 =
-    lowest_found (free c.args.block.now c.args.«open».now) c.args.buckets c.loop-bucket.bucket _ c.loop-bucket-test.true
-    (sym c.if-is_free.ensures) c.loop-bucket.invariant in
-    record { found = found; lowest = lowest_free_lem c.args.block.now c.args.«open».now c.args.buckets _ found }
 
 pub returns : goal.returns
 returns c =
-    let found : None ≡ lowest_free (free c.args.block.now c.args.«open».now) c.args.buckets 0 =
-    lowest_end (free c.args.block.now c.args.«open».now) c.args.buckets c.loop-bucket.bucket _ c.loop-bucket-test.false c.loop-bucket.invariant in
-    record { found = found; lowest = lowest_free_lem c.args.block.now c.args.«open».now c.args.buckets _ found }
+    let found : c.find.result ≡ lowest_free (free c.args.block.now c.args.«open».now) c.args.buckets 0 =
+    sym (option_map_id c.find.result)
+    ∙ find_from_yields_List (free c.args.block.now c.args.«open».now) _ _ _ c.find.ensures.ran (YieldsList-from_range 0 c.args.buckets c.args.buckets refl (omega arith)) (λ x b q k. search (rules, tests)) in
+    record { found = found; lowest = lowest_free_lem _ _ _ _ found }

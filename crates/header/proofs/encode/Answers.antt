@@ -1,25 +1,26 @@
--- The seven address fields and the eight bytes behind them are the bytes of the header, and read back as it.
-use Rattle.std.proofs.Common.{◌≡◌, ℕ, List, [], ◌∷◌, ◌++◌, length, get_or, take, ap, ◌∙◌, arith}
-use Rattle.header.specs.declared.Header.{Header}
-use Rattle.header.specs.Bytes.{patched}
-use Rattle.header.specs.Header.{addresses, written, read_header}
-use Rattle.header.proofs.Numbers.{bytes_4, length-bytes_of}
-use Rattle.header.proofs.Fields.{patched_end}
+-- The fields of the first i lines stand, and each turn puts the next one in behind them.
+use Rattle.std.proofs.Common.{◌≡◌, ◌≤◌, length, refl, ap, ◌∙◌, arith, rules, below_more}
+use Rattle.std.proofs.lemmas.List.{take_all}
+use Rattle.header.specs.Header.{addresses, read_header}
+use Rattle.header.proofs.Fields.{put_more, written_from}
 use Rattle.header.proofs.Back.{reads_back}
 use Rattle.header.proofs.encode.Goals as goal
 
-four : (xs : List ℕ) (a b c d : ℕ) → xs ≡ a ∷ b ∷ c ∷ d ∷ [] → get_or xs 0 0 ∷ get_or xs 1 0 ∷ get_or xs 2 0 ∷ get_or xs 3 0 ∷ [] ≡ a ∷ b ∷ c ∷ d ∷ []
-four xs a b c d e = rw e
+pub loop-i-init : goal.loop-i-init
+unfolding addresses
+loop-i-init c = (refl, λ k h. absurd (omega arith))
 
-joined : (h : Header) (bs cs n m : List ℕ) → cs ≡ patched bs 56 (h.count ∷ h.core ∷ h.before ∷ 0 ∷ n) → length bs ≡ 64 → take 56 bs ≡ addresses h.lines → n ≡ m → length m ≡ 4
-    → cs ≡ addresses h.lines ++ (h.count ∷ h.core ∷ h.before ∷ 0 ∷ m)
-joined h bs cs n m e l a q f =
-    let k : length n ≡ 4 = ap length q ∙ f in
-    e ∙ patched_end bs (h.count ∷ h.core ∷ h.before ∷ 0 ∷ n) 56 (omega arith) ∙ rw (a, q)
+pub loop-i-preserved : goal.loop-i-preserved
+loop-i-preserved c = (
+  put_more c.loop-i.bytes _ c.args.header.now.lines c.loop-i.i _ _ (omega arith) (omega arith) c.from-address.ensures
+      (c.copy_from_slice.ensures.after ∙ c.to_le_bytes.ensures) c.loop-i.invariant.0,
+  below_more _ _ c.loop-i.invariant.1 (search rules),
+)
 
 pub returns : goal.returns
-unfolding written
 returns c =
-    let did = joined c.args.header.now c.put_addresses.new.bytes c.put.new.bytes _ _ c.put.ensures c.put_addresses.array_long c.put_addresses.ensures.put
-    (four c.to_le_bytes.result _ _ _ _ c.to_le_bytes.ensures ∙ bytes_4 _) (length-bytes_of 4 _) in
-    record { written = did; back = λ s k. ap (read_header s) did ∙ reads_back s c.args.header.now k c.put_addresses.ensures.fits }
+    let e : c.loop-i.i ≡ 7 = omega arith in
+    let seven : length c.args.header.now.lines ≤ 7 = omega arith in
+    let fields = rw (e, take_all 7 c.args.header.now.lines seven) at c.loop-i.invariant.0 in
+    let done = written_from c.args.header.now c.loop-i.bytes _ _ c.loop-i-test.array_long fields c.copy_from_slice-2.ensures.after (c.copy_from_slice-3.ensures.after ∙ c.to_le_bytes-2.ensures) in
+    record { written = done; back = λ s k. ap (read_header s) done ∙ reads_back s c.args.header.now k (λ i h. c.loop-i.invariant.1 i (omega arith)) }

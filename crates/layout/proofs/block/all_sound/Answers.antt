@@ -1,10 +1,6 @@
-use Rattle.std.proofs.Common.{refl}
 use Rattle.layout.proofs.Blocks.{walk_more, walk_unsound, walk_shared, walk_end}
 use Rattle.layout.proofs.block.all_sound.Goals as goal
 use Rattle.layout.proofs.block.all_sound.Goals.{then-not-is_sound-via-then-not-is_sound, then-not-is_sound-via-else-not-is_sound+then-taken-held-ne0}
-
-pub loop-held-init : goal.loop-held-init
-loop-held-init c = refl
 
 pub returns-then-not-is_sound : goal.returns-then-not-is_sound
 returns-then-not-is_sound c =

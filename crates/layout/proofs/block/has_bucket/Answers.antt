@@ -1,7 +1,0 @@
-use Rattle.std.proofs.Common.{sym, ◌∙◌, rules}
-use Rattle.std.proofs.lemmas.Bool.{le-ltb}
-use Rattle.layout.proofs.Vectors.{has_not}
-use Rattle.layout.proofs.block.has_bucket.Goals as goal
-
-pub returns-else-bucket-lt32 : goal.returns-else-bucket-lt32
-returns-else-bucket-lt32 c = le-ltb c.args.bucket 32 (search rules) ∙ sym (has_not c.args.vector c.args.bucket (search rules) (search rules))

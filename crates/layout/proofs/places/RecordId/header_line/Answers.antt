@@ -1,0 +1,5 @@
+use Rattle.layout.proofs.Apart.{lines_apart}
+use Rattle.layout.proofs.places.RecordId.header_line.Goals as goal
+
+pub returns-clause-apart : goal.returns-clause-apart
+returns-clause-apart c = lines_apart c.args.sizes.now c.args.self.bucket c.args.self.slot 0
