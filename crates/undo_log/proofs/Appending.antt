@@ -9,7 +9,7 @@ use Rattle.layout.specs.Places.{entry_line}
 use Rattle.undo_log.specs.declared.fault.LogFault.{LogFault}
 use Rattle.undo_log.specs.Steps.{World, Step, write, Does, Ran}
 use Rattle.undo_log.specs.Open.{with_line}
-use Rattle.undo_log.specs.Closing.{Notes, before_at, with_open, record_place, closing, closed_notes, ClosesRecord}
+use Rattle.undo_log.specs.Closing.{state_of, Notes, before_at, with_open, record_place, closing, closed_notes, ClosesRecord}
 use Rattle.undo_log.specs.Append.{appended_notes, AppendsTo}
 
 closed_notes_lem : (n : Notes) (e : BlockEntry) (k : ℕ) (o : OpenRecord) (l : ℕ) (r : Result Unit LogFault) → eqb (o.count + 1) 7 ≡ true → closed_notes r n e k (with_line o l) ≡ appended_notes r n e k o l
@@ -17,8 +17,8 @@ closed_notes_lem n e k o l (Ok x) t = sym (cond-true _ _ _ t)
 closed_notes_lem n e k o l (Err f) t = refl
 
 -- the write, and then the closing
-pub seventh : (n m n' : Notes) (w v w' : World) (k : ℕ) (o o' : OpenRecord) (l f : ℕ) (c : Line) (r : Result Unit LogFault) → f ≡ entry_line n.sizes o.bucket o.slot (o.count + 1)
-    → Does (write f c (record_place k o)) w (Ok tt) v → m ≡ n → o' ≡ with_line o l → o'.count ≡ 7 → ClosesRecord m v k o' r n' w' → AppendsTo n w k o l c r n' w'
+pub seventh : (n m n' : Notes) (w v w' : World) (k : ℕ) (o o' : OpenRecord) (l f : ℕ) (c : Line) (r : Result Unit LogFault) → f ≡ entry_line n.sizes o.id.bucket o.id.slot (o.count + 1)
+    → Does (write f c (record_place k o)) w (Ok tt) v → m ≡ n → o' ≡ with_line o l → o'.count ≡ 7 → ClosesRecord (state_of m v) k o' r (state_of n' w') → AppendsTo (state_of n w) k o l c r (state_of n' w')
 seventh n m n' w v w' k o o' l f c r e d same is seven closes =
     let t : eqb (o.count + 1) 7 ≡ true = eq-eqb (o.count + 1) 7 (sym (ap (λ (x : OpenRecord). x.count) is) ∙ seven) in
     let b : v.block ≡ w.block = d.1.1.1 in
@@ -42,9 +42,9 @@ seventh n m n' w v w' k o o' l f c r e d same is seven closes =
     }
 
 -- the write alone
-pub before_seventh : (n m n' : Notes) (w v : World) (k : ℕ) (o o' : OpenRecord) (l f : ℕ) (c : Line) → f ≡ entry_line n.sizes o.bucket o.slot (o.count + 1)
+pub before_seventh : (n m n' : Notes) (w v : World) (k : ℕ) (o o' : OpenRecord) (l f : ℕ) (c : Line) → f ≡ entry_line n.sizes o.id.bucket o.id.slot (o.count + 1)
     → Does (write f c (record_place k o)) w (Ok tt) v → m ≡ n → o' ≡ with_line o l → (o'.count ≡ 7 → ⊥) → n' ≡ with_open m k (Some o')
-    → AppendsTo n w k o l c (Ok tt) n' v
+    → AppendsTo (state_of n w) k o l c (Ok tt) (state_of n' v)
 before_seventh n m n' w v k o o' l f c e d same is less new =
     let t : eqb (o.count + 1) 7 ≡ false = ne_eqb (o.count + 1) 7 (λ q. less (ap (λ (x : OpenRecord). x.count) is ∙ q)) in
     record {

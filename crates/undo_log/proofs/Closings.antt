@@ -16,10 +16,10 @@ pub first_line : (s : Sizes) (b r l : ℕ) → l ≡ entry_line s b r 0 → l �
 first_line s b r l e = omega arith
 
 pub the_steps : (s : Sizes) (e d f : BlockEntry) (was be k l : ℕ) (o : OpenRecord) (h : Header) (bs : Line)
-    → l ≡ entry_line s o.bucket o.slot 0 → bs ≡ written h → d ≡ e → be ≡ was → h ≡ header_of s d be k o → f ≡ counting d o.bucket o.slot
+    → l ≡ entry_line s o.id.bucket o.id.slot 0 → bs ≡ written h → d ≡ e → be ≡ was → h ≡ header_of s d be k o → f ≡ counting d o.id.bucket o.id.slot
     → write l bs (record_place k o) ∷ fence (record_place k o) ∷ enter k f ∷ [] ≡ closing s e was k o
 the_steps s e d f was be k l o h bs p q a b r t =
-    let line = first_line s o.bucket o.slot l p in
+    let line = first_line s o.id.bucket o.id.slot l p in
     rw (line, q, r, t, a, b) refl
 
 pub the_notes : (n m : Notes) (e d : BlockEntry) (was be k : ℕ) (o : OpenRecord) (s : Sizes) (h : Header) → m ≡ n → d ≡ e → be ≡ was → h ≡ header_of s d be k o

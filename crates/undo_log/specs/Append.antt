@@ -1,5 +1,5 @@
 -- Appending: a line's old content becomes the next entry of its core's open record.
-use Rattle.std.specs.Prelude.{◌≡◌, ℕ, ◌+◌, ◌<◌, ◌≤◌, cond, List, [], ◌∷◌, Some, None, Ok, Err, Result, ◌==◌}
+use Rattle.std.specs.Prelude.{◌≡◌, ℕ, ◌+◌, ◌<◌, ◌≤◌, cond, List, [], ◌∷◌, Some, None, Ok, Err, Option, Result, ◌==◌}
 use Rattle.memory.specs.Meaning.{Line}
 use Rattle.layout.specs.declared.block.BlockEntry.{BlockEntry}
 use Rattle.layout.specs.declared.open.OpenRecord.{OpenRecord}
@@ -9,14 +9,14 @@ use Rattle.layout.specs.Places.{entry_line}
 use Rattle.layout.specs.Sizes.{data_lines_of}
 use Rattle.undo_log.specs.declared.fault.LogFault.{LogFault}
 use Rattle.undo_log.specs.declared.fault.LogFault.TheVariants.{NoSuchCore, NoDataLine, NoRoom}
-use Rattle.undo_log.specs.Steps.{World, Step, write, Ran}
+use Rattle.undo_log.specs.Steps.{Step, write, Ran}
 use Rattle.undo_log.specs.Open.{log_target, with_line}
-use Rattle.undo_log.specs.Closing.{Notes, before_at, with_open, record_place, closing, closed_notes}
+use Rattle.undo_log.specs.Closing.{Notes, State, before_at, with_open, record_place, closing, closed_notes}
 
 -- the entry is written, and a record of seven is closed
 abbrev pub appending : Sizes → BlockEntry → ℕ → ℕ → OpenRecord → ℕ → Line → List Step
 appending s e was k o l c =
-    write (entry_line s o.bucket o.slot (o.count + 1)) c (record_place k o)
+    write (entry_line s o.id.bucket o.id.slot (o.count + 1)) c (record_place k o)
     ∷ cond (o.count + 1 == 7) (closing s e was k (with_line o l)) []
 
 -- the notes after it; where power went they are as they were
@@ -25,18 +25,21 @@ appended_notes (Err f) n e k o l = n
 appended_notes (Ok x) n e k o l =
     cond (o.count + 1 == 7) (closed_notes (Ok x) n e k (with_line o l)) (with_open n k (Some (with_line o l)))
 
+-- the record that takes core k's next entry
+abbrev pub target : State → ℕ → Option OpenRecord
+target s k = log_target s.notes.sizes s.world.block s.notes.opens k
+
 -- one more entry in record o of core k
-pub record AppendsTo (n : Notes) (w : World) (k : ℕ) (o : OpenRecord) (l : ℕ) (c : Line) (r : Result Unit LogFault) (n' : Notes) (w' : World) : Type 0 where
-  pub ran : Ran (appending n.sizes (entry_at w.block k) (before_at n k) k o l c) w r w'
-  pub notes : n' ≡ appended_notes r n (entry_at w.block k) k o l
+pub record AppendsTo (s : State) (k : ℕ) (o : OpenRecord) (l : ℕ) (c : Line) (r : Result Unit LogFault) (s' : State) : Type 0 where
+  pub ran : Ran (appending s.notes.sizes (entry_at s.world.block k) (before_at s.notes k) k o l c) s.world r s'.world
+  pub notes : s'.notes ≡ appended_notes r s.notes (entry_at s.world.block k) k o l
 
 -- what an append of line l with content c for core k answers and leaves
-pub record Appends (n : Notes) (w : World) (k l : ℕ) (c : Line) (r : Result Unit LogFault) (n' : Notes) (w' : World) : Type 0 where
-  pub missing : n.sizes.cores ≤ k → (r ≡ Err (NoSuchCore k)) × ((n' ≡ n) × (w' ≡ w))
-  pub outside : k < n.sizes.cores → data_lines_of n.sizes ≤ l → (r ≡ Err (NoDataLine l)) × ((n' ≡ n) × (w' ≡ w))
+pub record Appends (s : State) (k l : ℕ) (c : Line) (r : Result Unit LogFault) (s' : State) : Type 0 where
+  pub missing : s.notes.sizes.cores ≤ k → (r ≡ Err (NoSuchCore k)) × (s' ≡ s)
+  pub outside : k < s.notes.sizes.cores → data_lines_of s.notes.sizes ≤ l → (r ≡ Err (NoDataLine l)) × (s' ≡ s)
   pub full :
-      k < n.sizes.cores → l < data_lines_of n.sizes → log_target n.sizes w.block n.opens k ≡ None
-      → (r ≡ Err (NoRoom k)) × ((n' ≡ n) × (w' ≡ w))
+      k < s.notes.sizes.cores → l < data_lines_of s.notes.sizes → target s k ≡ None → (r ≡ Err (NoRoom k)) × (s' ≡ s)
   pub some :
-      k < n.sizes.cores → l < data_lines_of n.sizes → (o : OpenRecord) → log_target n.sizes w.block n.opens k ≡ Some o
-      → AppendsTo n w k o l c r n' w'
+      k < s.notes.sizes.cores → l < data_lines_of s.notes.sizes → (o : OpenRecord) → target s k ≡ Some o
+      → AppendsTo s k o l c r s'

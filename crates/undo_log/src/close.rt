@@ -1,9 +1,9 @@
 // Closing: the header is written and fenced, and then one step in the block counts the record.
 ghost use Rattle.std.specs.Prelude.{◌≡◌, ◌^◌, ◌<◌, [], ◌∷◌};
 ghost use Rattle.layout.specs.Block.{counting};
-ghost use Rattle.undo_log.specs.Calls.{world, notes_of};
-ghost use Rattle.undo_log.specs.Closing.{header_of, ClosesRecord, Closes};
-ghost use Rattle.undo_log.specs.Steps.{write, fence, enter, Ran};
+ghost use Rattle.undo_log.specs.Calls.{state};
+ghost use Rattle.undo_log.specs.Closing.{header_of, ClosesRecord, Closes, Runs};
+ghost use Rattle.undo_log.specs.Steps.{write, fence, enter};
 
 use crate::{Log, LogFault, Place};
 use header::{Header, encode};
@@ -17,22 +17,26 @@ fn bit(bucket: u8) -> u32
     1 << bucket
 }
 
-// The entry that counts a record.
+// The entry that counts a record. A function, as the one below: the types are of crates that close no record.
 fn counted(held: &BlockEntry, opened: &OpenRecord) -> BlockEntry
-    requires { (opened.now.bucket < 32) × (opened.now.slot < 4) }
-    ensures { result ≡ counting held.now opened.now.bucket opened.now.slot }
+    requires { (opened.now.id.bucket < 32) × (opened.now.id.slot < 4) }
+    ensures { result ≡ counting held.now opened.now.id.bucket opened.now.id.slot }
 {
     BlockEntry {
-        vector: held.vector | bit(opened.bucket),
-        current: opened.bucket,
-        closed: opened.slot + 1,
+        vector: held.vector | bit(opened.id.bucket),
+        current: opened.id.bucket,
+        closed: opened.id.slot + 1,
     }
 }
 
 fn header_of(sizes: &Sizes, held: &BlockEntry, was: u8, core: u8, opened: &OpenRecord) -> Header
     ensures { result ≡ header_of sizes.now held.now was core opened.now }
 {
-    let before = if opened.slot == 0 { held.current } else { was };
+    let before = if opened.id.slot == 0 {
+        held.current
+    } else {
+        was
+    };
     Header {
         lines: opened.lines,
         count: opened.count,
@@ -52,9 +56,7 @@ impl<M: Memory> Log<M> {
         core: u8,
         counts: BlockEntry,
     ) -> Result<(), LogFault>
-        requires { core < self.old.sizes.cores }
-        ensures ran { Ran (write line bytes.now place ∷ fence place ∷ enter core counts ∷ []) (world M.Memory.meaning self.old) result (world M.Memory.meaning self.new) }
-        ensures rest { notes_of self.new ≡ notes_of self.old }
+        ensures { Runs (write line bytes.now place ∷ fence place ∷ enter core counts ∷ []) (state self.old) result (state self.new) }
     {
         self.write(place, line, bytes)?;
         self.fence(place)?;
@@ -64,33 +66,26 @@ impl<M: Memory> Log<M> {
 
     // Closes a record of a core.
     pub(crate) fn close_record(&mut self, core: u8, opened: OpenRecord) -> Result<(), LogFault>
-        requires { (core < self.old.sizes.cores) × ((opened.bucket < 32) × (opened.slot < 4)) }
-        ensures { ClosesRecord (notes_of self.old) (world M.Memory.meaning self.old) core opened result (notes_of self.new) (world M.Memory.meaning self.new) }
+        requires { (opened.id.bucket < 32) × (opened.id.slot < 4) }
+        ensures { ClosesRecord (state self.old) core opened result (state self.new) }
     {
         let held = self.entry(core);
         let place = Place::Record {
             core,
-            bucket: opened.bucket,
-            slot: opened.slot,
+            id: opened.id,
         };
-        let header = header_of(
-            &self.sizes,
-            &held,
-            self.before[core as usize],
-            core,
-            &opened,
-        );
-        let line = self.line_of(opened.bucket, opened.slot, 0);
+        let was = self.before_at(core);
+        let header = header_of(&self.sizes, &held, was, core, &opened);
+        let line = self.line_of(opened.id, 0);
         let bytes = encode(&header);
         self.close_by(place, line, &bytes, core, counted(&held, &opened))?;
-        self.open[core as usize] = None;
-        self.before[core as usize] = header.before;
+        self.note_closed(core, header.before);
         Ok(())
     }
 
     // Closes a core's open record, if it has one.
     pub fn close(&mut self, core: u8) -> Result<(), LogFault>
-        ensures { Closes (notes_of self.old) (world M.Memory.meaning self.old) core result (notes_of self.new) (world M.Memory.meaning self.new) }
+        ensures { Closes (state self.old) core result (state self.new) }
     {
         if core >= self.sizes.cores {
             return Err(LogFault::NoSuchCore { core });

@@ -9,7 +9,7 @@ mod calls;
 mod close;
 mod fault;
 mod lift;
+mod noted;
 mod start;
 mod state;
 mod steps;
-mod tables;

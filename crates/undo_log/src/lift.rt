@@ -1,5 +1,5 @@
 // The memory's faults as faults of the log.
-ghost use Rattle.std.specs.Prelude.{◌≡◌, Ok, Err};
+ghost use Rattle.std.specs.Prelude.{◌≡◌};
 ghost use Rattle.undo_log.specs.declared.fault.LogFault.TheVariants.{Memory};
 ghost use Rattle.undo_log.specs.declared.fault.Place.TheVariants.{Nowhere};
 ghost use Rattle.undo_log.specs.Steps.{placed};
@@ -22,8 +22,5 @@ impl From<MemoryFault> for LogFault {
 pub(crate) fn at(place: Place, answer: Result<(), MemoryFault>) -> Result<(), LogFault>
     ensures { result ≡ placed place answer }
 {
-    match answer {
-        Ok(()) => Ok(()),
-        Err(fault) => Err(LogFault::Memory { place, fault }),
-    }
+    answer.map_err(|fault| LogFault::Memory { place, fault })
 }

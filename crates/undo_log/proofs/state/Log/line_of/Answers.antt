@@ -13,5 +13,5 @@ pub overflow_cast-result : goal.overflow_cast-result
 overflow_cast-result g c =
     let l = c.args.self.now in
     let q = c.entry_line.ensures.at in
-    let p = low l.sizes c.args.bucket c.args.slot c.args.«entry» l.data l.records (search rules) (search rules) (search rules) in
+    let p = low l.sizes c.args.id.bucket c.args.id.slot c.args.«entry» l.bounded.lines l.bounded.records (search rules) (search rules) (search rules) in
     search rules
