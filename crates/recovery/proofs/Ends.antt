@@ -21,7 +21,7 @@ few_in (suc n) v B h =
     (cases_eq (v / 2 ^ n % 2) 1))
     (cases_lt n B)
 
-none_of : (s : Sizes) → records_of s empty ≡ 0
+pub none_of : (s : Sizes) → records_of s empty ≡ 0
 none_of s = let p = none_in 32 in let q : buckets_in 32 0 - 1 ≡ 0 = omega arith in ap (λ (x : ℕ). x * s.records + 0) q ∙ omega arith
 
 few_of : (s : Sizes) (e : BlockEntry) → Filled s e → records_of s e ≤ s.buckets * s.records

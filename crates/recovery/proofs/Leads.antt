@@ -1,12 +1,12 @@
 -- Steps that are carried out in a loop, by what is left of them; and what a single step leaves.
-use Rattle.std.proofs.Common.{◌≡◌, ℕ, ◌<◌, ◌≤◌, true, List, [], ◌∷◌, ◌++◌, length, Ok, Err, Result, refl, ap, ◌∙◌, subst, ⊎_elim, arith}
-use Rattle.std.proofs.lemmas.Bool.{cases_lt}
+use Rattle.std.proofs.Common.{◌≡◌, ℕ, List, [], ◌∷◌, ◌++◌, Ok, Err, Result, refl, ap, ◌∙◌, subst}
 use Rattle.memory.specs.Meaning.{Meaning, Line, Writes, Wrote, Fences, Fenced}
 use Rattle.memory.specs.declared.fault.MemoryFault.{MemoryFault}
 use Rattle.undo_log.specs.declared.fault.Place.{Place}
 use Rattle.undo_log.specs.declared.fault.LogFault.{LogFault}
 use Rattle.undo_log.specs.Steps.{World, Step, placed, Does, Ran}
 use Rattle.undo_log.proofs.Runs.{ran_then, ran_stops}
+use Rattle.recovery.proofs.Outcomes.{done, lost, idle, WriteOutcome, FenceOutcome, write_outcome, fence_outcome}
 
 -- what is left of the steps leads from v to where all lead from w
 abbrev pub Leads : List Step → World → List Step → World → Type 0
@@ -35,20 +35,18 @@ leads_same all left left' w v e inv = subst (λ (ss : List Step). Leads all w ss
 
 -- a step that completes
 
-ok_err : (e : MemoryFault) (p : Place) → Ok tt ≡ placed p (Err e) → ⊥
-ok_err e p q = let z : ◌≡◌ {A = ℕ} 0 1 = cc in omega arith
+pub wrote : (m n : Meaning) (l : ℕ) (c : Line) (p : Place) (q : Result Unit MemoryFault) → Writes m l c q n → Ok tt ≡ placed p q → Wrote m l c n
+wrote m n l c p q w e = go (write_outcome m l c q n w)
+  where
+    go : WriteOutcome m l c q n → Wrote m l c n
+    go (done _ x) = x.1
+    go (lost f is _) = cc (e ∙ ap (placed p) is)
+    go (idle f is _) = cc (e ∙ ap (placed p) is)
 
-pub wrote : (m n : Meaning) (l : ℕ) (c : Line) (p : Place) (q : Result Unit MemoryFault) → Writes m l c q n → Ok tt ≡ placed p q → m.on ≡ true → Wrote m l c n
-wrote m n l c p q w e on =
-    ⊎_elim
-    (λ (h : l < length m.lines). ⊎_elim
-    (λ (g : 0 < m.left). (w.done h on g).1)
-    (λ (g : m.left ≤ 0). absurd (ok_err _ p (e ∙ ap (placed p) (w.lost h on (omega arith)).0)))
-    (cases_lt 0 m.left))
-    (λ (h : length m.lines ≤ l). absurd (ok_err _ p (e ∙ ap (placed p) (w.missing h).0)))
-    (cases_lt l (length m.lines))
-
-pub fenced : (m n : Meaning) (p : Place) (q : Result Unit MemoryFault) → Fences m q n → Ok tt ≡ placed p q → m.on ≡ true → Fenced m n
-fenced m n p q w e on =
-    ⊎_elim (λ (g : 0 < m.left). (w.done on g).1) (λ (g : m.left ≤ 0). absurd (ok_err _ p (e ∙ ap (placed p) (w.lost on (omega arith)).0)))
-    (cases_lt 0 m.left)
+pub fenced : (m n : Meaning) (p : Place) (q : Result Unit MemoryFault) → Fences m q n → Ok tt ≡ placed p q → Fenced m n
+fenced m n p q w e = go (fence_outcome m q n w)
+  where
+    go : FenceOutcome m q n → Fenced m n
+    go (done _ x) = x
+    go (lost f is _) = cc (e ∙ ap (placed p) is)
+    go (idle f is _) = cc (e ∙ ap (placed p) is)

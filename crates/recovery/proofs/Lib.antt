@@ -1,6 +1,8 @@
+pub mod Headers
 pub mod Walks
 pub mod Cores
 pub mod Same
+pub mod Outcomes
 pub mod Leads
 pub mod Entries
 pub mod Records

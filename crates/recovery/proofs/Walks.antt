@@ -1,121 +1,74 @@
--- The check: one header after another, and the walk over a core's records as a loop goes it.
-use Rattle.std.proofs.Common.{◌≡◌, ℕ, suc, ◌+◌, ◌-◌, ◌<◌, ◌≤◌, Bool, true, false, cond, ◌⊎◌, [], length, Some, None, Ok, Err, Option, Result, sym, refl, ap, ◌∙◌, subst, ⊎_elim, arith}
-use Rattle.std.proofs.lemmas.Nat.{mul-le}
-use Rattle.std.proofs.lemmas.List.{get_or_past}
-use Rattle.std.proofs.lemmas.Bool.{cases_lt, cond-true, cond-false, lt-ltb, le-ltb, and_from, and_left, and_right, and_parts, ltb-true, eqb-true}
-use Rattle.memory.specs.Meaning.{Meaning, Line, Reads, content_at}
-use Rattle.memory.specs.declared.fault.MemoryFault.{MemoryFault}
+-- The walk, one record on; and the check of a core, by what is counted and what is left.
+use Rattle.std.proofs.Common.{◌≡◌, ℕ, suc, ◌+◌, ◌-◌, ◌<◌, ◌≤◌, true, [], length, Some, None, Ok, Err, Option, Result, sym, refl, ap, ◌∙◌, subst, arith}
+use Rattle.std.proofs.lemmas.Bool.{both_ways}
+use Rattle.memory.specs.Meaning.{Line, content_at}
 use Rattle.layout.specs.declared.block.BlockEntry.{BlockEntry}
+use Rattle.layout.specs.declared.places.RecordId.{RecordId}
 use Rattle.layout.specs.declared.sizes.Sizes.{Sizes}
-use Rattle.layout.specs.Block.{records_of}
-use Rattle.layout.specs.Places.{header_line, in_log}
-use Rattle.layout.specs.Sizes.{lines_needed}
 use Rattle.header.specs.declared.Header.{Header}
-use Rattle.header.specs.Header.{read_header}
-use Rattle.header.proofs.Good.{reads_nothing}
 use Rattle.undo_log.specs.declared.fault.LogFault.{LogFault}
-use Rattle.undo_log.specs.declared.fault.LogFault.TheVariants.{BadHeader}
-use Rattle.undo_log.specs.Calls.{Bounded}
-use Rattle.recovery.specs.Walk.{Found, Walk, stops, finds, fits, fitting, header_at, bucket_next, slot_next, adding, turn, walk, walk_of, entries_in}
+use Rattle.undo_log.specs.Closing.{State}
+use Rattle.recovery.specs.declared.walk.Cursor.{Cursor}
+use Rattle.recovery.specs.declared.walk.Found.{Found}
+use Rattle.recovery.specs.Walk.{Walk, stops, finds, header_at, adding, turn, walk, walk_of, walk_in, found, entries_in}
+use Rattle.recovery.specs.Cursor.{newest, past, to_come, header_here, Next}
 use Rattle.recovery.specs.Check.{tally, plus}
-
--- the lines of a log can be numbered by a u16
-pub lines_few : (s : Sizes) → Bounded s → lines_needed s ≤ 1536
-lines_few s b = let p = mul-le s.buckets s.records 32 4 b.buckets b.records in omega (arith, b.lines)
-
--- a header that is read
-
-read_gives : (m : Meaning) (l : ℕ) (bs : Line) → m.on ≡ true → Reads m l (Ok bs) → content_at m l ≡ bs
-read_gives m l bs on h =
-    ⊎_elim
-    (λ (q : l < length m.lines). let e = h.done q on in cc)
-    (λ (q : length m.lines ≤ l). let e = h.missing q in absurd (let z : ◌≡◌ {A = ℕ} 0 1 = cc in omega arith))
-    (cases_lt l (length m.lines))
-
-read_fails : (m : Meaning) (l : ℕ) (r : Result Line MemoryFault) → m.on ≡ true → Reads m l r → ((bs : Line) → r ≡ Ok bs → ⊥) → content_at m l ≡ []
-read_fails m l r on h none =
-    ⊎_elim (λ (q : l < length m.lines). absurd (none _ (h.done q on))) (λ (q : length m.lines ≤ l). get_or_past m.lines l [] q)
-    (cases_lt l (length m.lines))
-
-inside : (s : Sizes) (b r : ℕ) → b < s.buckets → r < s.records → in_log s b r ≡ true
-inside s b r h g = and_from _ _ (lt-ltb b s.buckets h) (lt-ltb r s.records g)
-
-there : (s : Sizes) (f : ℕ → Line) (k : ℕ) (e : BlockEntry) (n b r : ℕ) → b < s.buckets → r < s.records
-    → header_at s f k e n b r ≡ fitting s k e n (read_header s (f (header_line s b r)))
-unfolding header_at
-there s f k e n b r h g = cond-true _ _ None (inside s b r h g)
-
-not_there : (s : Sizes) (f : ℕ → Line) (k : ℕ) (e : BlockEntry) (n b r : ℕ) → in_log s b r ≡ false → None ≡ header_at s f k e n b r
-unfolding header_at
-not_there s f k e n b r h = sym (cond-false _ _ None h)
-
--- no such record
-pub header_outside : (s : Sizes) (f : ℕ → Line) (k : ℕ) (e : BlockEntry) (n b r : ℕ) → (s.buckets ≤ b) ⊎ (s.records ≤ r) → None ≡ header_at s f k e n b r
-header_outside s f k e n b r h =
-    not_there s f k e n b r
-    (⊎_elim (λ (q : s.buckets ≤ b). and_left _ _ (le-ltb b s.buckets q)) (λ (q : s.records ≤ r). and_right _ _ (le-ltb r s.records q)) h)
-
-module _ (s : Sizes) (m m' : Meaning) (k : ℕ) (e : BlockEntry) (n b r l : ℕ) (same : m' ≡ m) (on : m.on ≡ true) (h : b < s.buckets) (g : r < s.records) (at : l ≡ header_line s b r) where
-  -- the line cannot be read
-  pub header_unread : (q : Result Line MemoryFault) → Reads m' l q → ((bs : Line) → q ≡ Ok bs → ⊥) → None ≡ header_at s (content_at m) k e n b r
-  header_unread q x none =
-      let y = read_fails m l q on (subst (λ (i : Meaning). Reads i l q) same x) none in
-      ap (fitting s k e n) (sym (reads_nothing s) ∙ ap (read_header s) (sym y) ∙ ap (λ (i : ℕ). read_header s (content_at m i)) at)
-      ∙ sym (there s (content_at m) k e n b r h g)
-
-  -- its bytes, and what they hold
-  pub header_read : (bs : Line) (o : Option Header) → Reads m' l (Ok bs) → o ≡ read_header s bs → fitting s k e n o ≡ header_at s (content_at m) k e n b r
-  header_read bs o x p =
-      let y = read_gives m l bs on (subst (λ (i : Meaning). Reads i l (Ok bs)) same x) in
-      ap (fitting s k e n) (p ∙ ap (read_header s) (sym y) ∙ ap (λ (i : ℕ). read_header s (content_at m i)) at)
-      ∙ sym (there s (content_at m) k e n b r h g)
-
--- what a header that fits says
-
-some_fits : (s : Sizes) (k : ℕ) (e : BlockEntry) (n : ℕ) (o : Option Header) (h : Header) → Some h ≡ fitting s k e n o → (o ≡ Some h) × (fits s k e n h ≡ true)
-some_fits s k e n None h q = absurd (let z : ◌≡◌ {A = ℕ} 0 1 = cc in omega arith)
-some_fits s k e n (Some x) h q = go (fits s k e n x) refl q
-  where
-    go : (t : Bool) → fits s k e n x ≡ t → Some h ≡ cond t (Some x) None → (Some x ≡ Some h) × (fits s k e n h ≡ true)
-    go true p q = let y : h ≡ x = cc q in (sym q, ap (fits s k e n) y ∙ p)
-    go false p q = absurd (let z : ◌≡◌ {A = ℕ} 0 1 = cc q in omega arith)
-
-pub record There (s : Sizes) (f : ℕ → Line) (n b r : ℕ) (h : Header) : Type 0 where
-  pub bucket : b < s.buckets
-  pub slot : r < s.records
-  pub good : read_header s (f (header_line s b r)) ≡ Some h
-  pub number : h.number ≡ n
-
--- it lies in the log, its line holds a good header, and the number is right
-pub header_there : (s : Sizes) (f : ℕ → Line) (k : ℕ) (e : BlockEntry) (n b r : ℕ) (h : Header) → Some h ≡ header_at s f k e n b r → There s f n b r h
-unfolding header_at
-header_there s f k e n b r h q = go (in_log s b r) refl q
-  where
-    go : (t : Bool) → in_log s b r ≡ t → Some h ≡ cond t (fitting s k e n (read_header s (f (header_line s b r)))) None → There s f n b r h
-    go true t q =
-        let p = and_parts _ _ t in
-        let x = some_fits s k e n _ h q in
-        let y = and_parts _ _ (and_parts _ _ x.1).0 in
-        record { bucket = ltb-true b s.buckets p.0; slot = ltb-true r s.records p.1; good = x.0; number = eqb-true h.number n y.1 }
-    go false t q = absurd (let z : ◌≡◌ {A = ℕ} 0 1 = cc q in omega arith)
-
--- the walk, one record on
-
-pub walk_none : (s : Sizes) (f : ℕ → Line) (k : ℕ) (e : BlockEntry) (b r : ℕ) → walk s f k e 0 b r ≡ finds []
-unfolding walk
-walk_none s f k e b r = refl
 
 one_less : (n : ℕ) → 0 < n → n ≡ suc (n - 1)
 one_less n h = omega arith
 
-pub walk_some : (s : Sizes) (f : ℕ → Line) (k : ℕ) (e : BlockEntry) (n b r : ℕ) (h : Header) → 0 < n → Some h ≡ header_at s f k e (n - 1) b r
-    → walk s f k e n b r ≡ adding (record { bucket = b; slot = r; header = h }) (walk s f k e (n - 1) (bucket_next b r h) (slot_next s r))
+walk_turn : (s : Sizes) (f : ℕ → Line) (k : ℕ) (e : BlockEntry) (n b r : ℕ) (o : Option Header) → 0 < n → o ≡ header_at s f k e (n - 1) b r
+    → walk s f k e n b r ≡ turn s b r (walk s f k e (n - 1)) o
 unfolding walk
-walk_some s f k e n b r h g p = ap (λ (i : ℕ). walk s f k e i b r) (one_less n g) ∙ ap (turn s b r (walk s f k e (n - 1))) (sym p)
+walk_turn s f k e n b r o g p = ap (λ (i : ℕ). walk s f k e i b r) (one_less n g) ∙ ap (turn s b r (walk s f k e (n - 1))) (sym p)
 
-pub walk_stops : (s : Sizes) (f : ℕ → Line) (k : ℕ) (e : BlockEntry) (n b r : ℕ) → 0 < n → None ≡ header_at s f k e (n - 1) b r → walk s f k e n b r ≡ stops b r
+pub walk_none : (s : Sizes) (f : ℕ → Line) (k : ℕ) (e : BlockEntry) (n b r : ℕ) → n ≡ 0 → walk s f k e n b r ≡ finds []
 unfolding walk
-walk_stops s f k e n b r g p = ap (λ (i : ℕ). walk s f k e i b r) (one_less n g) ∙ ap (turn s b r (walk s f k e (n - 1))) (sym p)
+walk_none s f k e n b r z = ap (λ (i : ℕ). walk s f k e i b r) z
+
+-- the walk goes on by record x
+pub record Onward (s : State) (c : Cursor) (x : Found) (c' : Cursor) : Type 0 where
+  pub some : 0 < c.left
+  pub left : c'.left ≡ c.left - 1
+  pub core : c'.core ≡ c.core
+  pub walk : to_come s c ≡ adding x (to_come s c')
+
+module _ (s : State) (c c' : Cursor) where
+  turn_here : (o : Option Header) → 0 < c.left → o ≡ header_here s c (c.left - 1)
+      → to_come s c ≡ turn s.notes.sizes c.id.bucket c.id.slot (walk s.notes.sizes (content_at s.world.memory) c.core c.held (c.left - 1)) o
+  turn_here o g p = walk_turn s.notes.sizes (content_at s.world.memory) c.core c.held c.left c.id.bucket c.id.slot o g p
+
+  onward_some : (x : Found) → Next s c (Ok (Some x)) c' → Onward s c x c'
+  onward_some x n =
+      record {
+        some = n.0;
+        left = ap (λ (d : Cursor). d.left) n.3;
+        core = ap (λ (d : Cursor). d.core) n.3;
+        walk = turn_here (Some x.header) n.0 n.2
+            ∙ ap (λ (i : RecordId). adding (record { id = i; header = x.header }) (to_come s (past s c x.header))) (sym n.1)
+            ∙ ap (λ (d : Cursor). adding x (to_come s d)) (sym n.3);
+      }
+
+  pub onward : (o : Option Found) (x : Found) → o ≡ Some x → Next s c (Ok o) c' → Onward s c x c'
+  onward o x e n = onward_some x (subst (λ (o : Option Found). Next s c (Ok o) c') e n)
+
+  ends_none : Next s c (Ok None) c' → (c.left ≡ 0) × (to_come s c ≡ finds [])
+  ends_none n = (n, walk_none s.notes.sizes (content_at s.world.memory) c.core c.held c.left c.id.bucket c.id.slot n)
+
+  pub ends : (o : Option Found) → o ≡ None → Next s c (Ok o) c' → (c.left ≡ 0) × (to_come s c ≡ finds [])
+  ends o e n = ends_none (subst (λ (o : Option Found). Next s c (Ok o) c') e n)
+
+  pub fails : (k : ℕ) (e : LogFault) → c.core ≡ k → Next s c (Err e) c' → Err e ≡ tally k (to_come s c)
+  fails k e q n = ap Err n.2 ∙ sym (ap (tally c.core) (turn_here None n.0 n.1)) ∙ ap (λ (k : ℕ). tally k (to_come s c)) q
+
+pub begins : (s : State) (k : ℕ) (c : Cursor) → c ≡ newest s k → to_come s c ≡ walk_in s k
+unfolding walk_of
+begins s k c p = ap (to_come s) p
+
+-- a walk that fails has not come to its end
+pub not_found : (k : ℕ) (w : Walk) (e : LogFault) → Err e ≡ tally k w → found w ≡ true → ⊥
+not_found k (stops b r) e p t = absurd (both_ways _ refl t)
+not_found k (finds fs) e p t = cc p
 
 -- the check of a core: R records in all, n of them left, c entries counted, and the answer is T
 
@@ -131,37 +84,24 @@ tally_none : (k a b : ℕ) → plus (a, b) (tally k (finds [])) ≡ Ok (a, b)
 unfolding entries_in
 tally_none k a b = let p : a + 0 ≡ a = omega arith in let q : b + 0 ≡ b = omega arith in cc
 
-abbrev Left : Sizes → (ℕ → Line) → ℕ → BlockEntry → ℕ → ℕ → ℕ → ℕ → ℕ → Result (ℕ × ℕ) LogFault → Type 0
-Left s f k e R n c b r T = plus (R - n, c) (tally k (walk s f k e n b r)) ≡ T
-
-plus_none : (q : Result (ℕ × ℕ) LogFault) (R : ℕ) → plus (R - R, 0) q ≡ q
-plus_none (Ok n) R =
+pub count_none : (q : Result (ℕ × ℕ) LogFault) (R : ℕ) → plus (R - R, 0) q ≡ q
+count_none (Ok n) R =
     let p : R - R + n.0 ≡ n.0 = omega arith in
     let q : 0 + n.1 ≡ n.1 = omega arith in
     ap (λ (x : ℕ). Ok (x, 0 + n.1)) p ∙ ap (λ (y : ℕ). Ok (n.0, y)) q
-plus_none (Err e) R = refl
+count_none (Err e) R = refl
 
-pub core_starts : (s : Sizes) (f : ℕ → Line) (k : ℕ) (e : BlockEntry) (R r : ℕ) → R ≡ records_of s e → r ≡ e.closed - 1
-    → Left s f k e R R 0 e.current r (tally k (walk_of s f k e))
-unfolding walk_of
-core_starts s f k e R r p q = plus_none (tally k (walk s f k e R e.current r)) R ∙ rw (p, q)
+module _ (k R n c : ℕ) (w : Walk) (T : Result (ℕ × ℕ) LogFault) (inv : plus (R - n, c) (tally k w) ≡ T) where
+  pub count_more : (x : Found) (v : Walk) (n' : ℕ) → 0 < n → n ≤ R → n' ≡ n - 1 → w ≡ adding x v → plus (R - n', c + x.header.count) (tally k v) ≡ T
+  count_more x v n' some few p q =
+      let m : R - n' ≡ R - n + 1 = omega arith in
+      ap (λ (i : ℕ). plus (i, c + x.header.count) (tally k v)) m
+      ∙ sym (tally_adding k (R - n) c x v) ∙ ap (λ (u : Walk). plus (R - n, c) (tally k u)) (sym q) ∙ inv
 
-pub core_more : (s : Sizes) (f : ℕ → Line) (k : ℕ) (e : BlockEntry) (R n c b r b' r' : ℕ) (h : Header) (T : Result (ℕ × ℕ) LogFault) → 0 < n → n ≤ R
-    → Some h ≡ header_at s f k e (n - 1) b r → b' ≡ bucket_next b r h → r' ≡ slot_next s r → Left s f k e R n c b r T
-    → Left s f k e R (n - 1) (c + h.count) b' r' T
-core_more s f k e R n c b r b' r' h T some few p q t inv =
-    let m : R - (n - 1) ≡ R - n + 1 = omega arith in
-    let w = walk_some s f k e n b r h some p in
-    let a = tally_adding k (R - n) c (record { bucket = b; slot = r; header = h }) (walk s f k e (n - 1) (bucket_next b r h) (slot_next s r)) in
-    rw (m, q, t) (sym a ∙ ap (λ (v : Walk). plus (R - n, c) (tally k v)) (sym w) ∙ inv)
+  pub count_fails : (e : LogFault) → Err e ≡ tally k w → Err e ≡ T
+  count_fails e p = ap (plus (R - n, c)) p ∙ inv
 
-pub core_stops : (s : Sizes) (f : ℕ → Line) (k : ℕ) (e : BlockEntry) (R n c b r : ℕ) (T : Result (ℕ × ℕ) LogFault) → 0 < n
-    → None ≡ header_at s f k e (n - 1) b r → Left s f k e R n c b r T → Err (BadHeader k b r) ≡ T
-core_stops s f k e R n c b r T some p inv = ap (λ (v : Walk). plus (R - n, c) (tally k v)) (sym (walk_stops s f k e n b r some p)) ∙ inv
-
-pub core_ends : (s : Sizes) (f : ℕ → Line) (k : ℕ) (e : BlockEntry) (R n c b r : ℕ) (T : Result (ℕ × ℕ) LogFault) → n ≡ 0
-    → Left s f k e R n c b r T → Ok (R, c) ≡ T
-core_ends s f k e R n c b r T p inv =
-    let m : R - 0 ≡ R = omega arith in
-    ap (λ (i : ℕ). Ok (i, c)) (sym m) ∙ sym (tally_none k (R - 0) c) ∙ ap (λ (v : Walk). plus (R - 0, c) (tally k v)) (sym (walk_none s f k e b r))
-    ∙ ap (λ (i : ℕ). plus (R - i, c) (tally k (walk s f k e i b r))) (sym p) ∙ inv
+  pub count_ends : n ≡ 0 → w ≡ finds [] → Ok (R, c) ≡ T
+  count_ends z q =
+      let m : R ≡ R - n = omega arith in
+      ap (λ (i : ℕ). Ok (i, c)) m ∙ sym (tally_none k (R - n) c) ∙ ap (λ (u : Walk). plus (R - n, c) (tally k u)) (sym q) ∙ inv

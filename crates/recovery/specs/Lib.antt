@@ -1,4 +1,5 @@
 pub mod Walk
+pub mod Cursor
 pub mod Check
 pub mod Undo
 pub mod Undone

@@ -1,18 +1,14 @@
 -- The walk over a core's closed records, newest first, in lines given by a function from their numbers.
 use Rattle.std.specs.Prelude.{ℕ, zero, suc, ◌+◌, ◌-◌, Bool, true, false, cond, ◌&&◌, List, [], ◌∷◌, Some, None, Option, ◌==◌, nat_lt}
-use Rattle.memory.specs.Meaning.{Line}
+use Rattle.memory.specs.Meaning.{Line, content_at}
 use Rattle.layout.specs.declared.block.BlockEntry.{BlockEntry}
 use Rattle.layout.specs.declared.sizes.Sizes.{Sizes}
-use Rattle.layout.specs.Block.{has, records_of}
-use Rattle.layout.specs.Places.{header_line, in_log}
+use Rattle.layout.specs.Block.{entry_at, has, records_of}
+use Rattle.layout.specs.Places.{record_id, header_line, in_log}
 use Rattle.header.specs.declared.Header.{Header}
 use Rattle.header.specs.Header.{read_header}
-
--- a closed record as the walk finds it
-pub record Found : Type 0 where
-  pub bucket : ℕ
-  pub slot : ℕ
-  pub header : Header
+use Rattle.undo_log.specs.Closing.{State}
+use Rattle.recovery.specs.declared.walk.Found.{Found}
 
 pub data Walk : Type 0 where
   stops : ℕ → ℕ → Walk  -- at a header that fails, by its bucket and its number in that
@@ -46,7 +42,7 @@ adding f (finds fs) = finds (f ∷ fs)
 -- one record of the walk, and the rest of it from where its header leads
 abbrev pub turn : Sizes → ℕ → ℕ → (ℕ → ℕ → Walk) → Option Header → Walk
 turn s b r rest None = stops b r
-turn s b r rest (Some h) = adding (record { bucket = b; slot = r; header = h }) (rest (bucket_next b r h) (slot_next s r))
+turn s b r rest (Some h) = adding (record { id = record_id b r; header = h }) (rest (bucket_next b r h) (slot_next s r))
 
 -- the n records from record r of bucket b back to record 0 of the update
 unfoldable pub walk : Sizes → (ℕ → Line) → ℕ → BlockEntry → ℕ → ℕ → ℕ → Walk
@@ -56,6 +52,10 @@ walk s lines k e (suc n) b r = turn s b r (walk s lines k e n) (header_at s line
 -- the closed records of core k with entry e; with an empty entry it has none
 unfoldable pub walk_of : Sizes → (ℕ → Line) → ℕ → BlockEntry → Walk
 walk_of s lines k e = walk s lines k e (records_of s e) e.current (e.closed - 1)
+
+-- the walk over the closed records of core k in a log
+abbrev pub walk_in : State → ℕ → Walk
+walk_in s k = walk_of s.notes.sizes (content_at s.world.memory) k (entry_at s.world.block k)
 
 -- the walk came to its end
 abbrev pub found : Walk → Bool

@@ -1,8 +1,9 @@
 // Recovery in two halves: the check of every closed record, and then undoing, newest first.
 #![tactic(auto)]
 
+pub use checks::check;
 pub use undo::recover;
-pub use walk::check;
 
+mod checks;
 mod undo;
 mod walk;

@@ -1,125 +1,110 @@
-// The check of every header, cores ascending and records newest first; it writes nothing.
-ghost use Rattle.std.specs.Prelude.{◌≡◌, ◌*◌, ◌≤◌, true, length, IfOk};
-ghost use Rattle.memory.specs.Meaning.{content_at};
-ghost use Rattle.layout.specs.Block.{entry_at};
-ghost use Rattle.undo_log.specs.Calls.{world, notes_of, Bounded};
-ghost use Rattle.recovery.specs.Check.{ready, tally, checked, Checks, Ends};
-ghost use Rattle.recovery.specs.Walk.{fits, header_at, bucket_next, slot_next, walk_of};
+// The walk over a core's closed records, newest first; it writes nothing.
+ghost use Rattle.std.specs.Prelude.{◌≡◌, ◌≤◌, true};
+ghost use Rattle.undo_log.specs.Calls.{state, world};
+ghost use Rattle.recovery.specs.Cursor.{newest, next_id, header_here, Next};
+ghost use Rattle.recovery.specs.Walk.{fits};
 
 use header::{Header, decode};
-use layout::{BlockEntry, Sizes, has_bucket, header_line};
+use layout::{BlockEntry, NO_BUCKET, RecordId, Sizes};
 use memory::Memory;
 use undo_log::{Log, LogFault};
 
-fn header_fits(sizes: &Sizes, core: u8, held: &BlockEntry, number: u32, header: &Header) -> bool
-    ensures { result ≡ fits sizes.now core held.now number header.now }
-{
-    let linked = if number < sizes.records as u32 {
-        header.before == 255
-    } else {
-        has_bucket(held.vector, header.before)
-    };
-    header.core == core && header.number == number && linked
+// A closed record as the walk finds it. The definitions of crates above speak of it.
+#[derive(Clone, Copy)]
+pub struct Found {
+    pub id: RecordId,
+    pub header: Header,
 }
 
-// Where the walk goes from a record.
-pub(crate) fn bucket_next(bucket: u8, slot: u8, header: &Header) -> u8
-    ensures { result ≡ bucket_next bucket slot header.now }
-{
-    if slot == 0 { header.before } else { bucket }
-}
-
-pub(crate) fn slot_next(sizes: &Sizes, slot: u8) -> u8
-    ensures { result ≡ slot_next sizes.now slot }
-{
-    if slot == 0 {
-        sizes.records.saturating_sub(1)
-    } else {
-        slot - 1
+impl Found {
+    // Where the walk goes from here: from record 0 of a bucket to the last of the bucket before.
+    fn onward(&self, sizes: &Sizes) -> RecordId
+        ensures { result ≡ next_id sizes.now self.now.id self.now.header }
+    {
+        if self.id.slot == 0 {
+            RecordId {
+                bucket: self.header.before,
+                slot: sizes.records.saturating_sub(1),
+            }
+        } else {
+            RecordId {
+                slot: self.id.slot - 1,
+                ..self.id
+            }
+        }
     }
 }
 
-// The header of a record, if there is such a record and its header is good and fits.
-pub(crate) fn header_at<M: Memory>(
-    log: &Log<M>,
-    sizes: &Sizes,
+// How far a walk has come. It is no Iterator: undoing writes to the log between its steps, so it cannot hold the log.
+#[derive(Drop)]
+pub(crate) struct Cursor {
     core: u8,
-    held: &BlockEntry,
-    number: u32,
-    bucket: u8,
-    slot: u8,
-) -> Option<Header>
-    requires bounded { Bounded sizes.now }
-    requires on { (world M.Memory.meaning log.now).memory.on ≡ true }
-    ensures { result ≡ header_at sizes.now (content_at (world M.Memory.meaning log.now).memory) core held.now number bucket slot }
-{
-    if bucket >= sizes.buckets || slot >= sizes.records {
-        return None;
-    }
-    let Ok(bytes) = log.memory().read(header_line(sizes, bucket, slot) as u16) else {
-        return None;
-    };
-    let header = decode(sizes, &bytes)?;
-    if !header_fits(sizes, core, held, number, &header) {
-        return None;
-    }
-    Some(header)
+    held: BlockEntry,
+    // records to come; the number of the next in its update is one less
+    pub(crate) left: u32,
+    // the next record
+    id: RecordId,
 }
 
-// The records and entries of a core, or the place of the first header that fails.
-fn check_core<M: Memory>(log: &Log<M>, sizes: &Sizes, core: u8) -> Result<(u32, u32), LogFault>
-    requires bounded { Bounded sizes.now }
-    requires on { (world M.Memory.meaning log.now).memory.on ≡ true }
-    ensures few { IfOk result (λ n. (n.0 ≤ 8160) × (n.1 ≤ 255 * 8160)) }
-    ensures tallied { result ≡ tally core (walk_of sizes.now (content_at (world M.Memory.meaning log.now).memory) core (entry_at (world M.Memory.meaning log.now).block core)) }
-{
-    let held = log.entry(core);
-    let records = held.records(sizes);
-    let mut entries = 0;
-    let mut bucket = held.current;
-    let mut slot = held.closed.saturating_sub(1);
-    for number in (0..records).rev() {
-        let Some(header) = header_at(log, sizes, core, &held, number, bucket, slot) else {
-            return Err(LogFault::BadHeader { core, bucket, slot });
+impl Cursor {
+    // At a core's newest record.
+    pub(crate) fn newest<M: Memory>(log: &Log<M>, core: u8) -> Cursor
+        ensures is { result ≡ newest (state log.now) core }
+        ensures few { result.left ≤ 8160 }
+    {
+        let held = log.entry(core);
+        Cursor {
+            core,
+            held,
+            left: held.records(&log.sizes()),
+            id: RecordId {
+                bucket: held.current,
+                slot: held.closed.saturating_sub(1),
+            },
+        }
+    }
+
+    fn fits(&self, sizes: &Sizes, number: u32, header: &Header) -> bool
+        ensures { result ≡ fits sizes.now self.now.core self.now.held number header.now }
+    {
+        let linked = if number < u32::from(sizes.records) {
+            header.before == NO_BUCKET
+        } else {
+            self.held.has_bucket(header.before)
         };
-        entries += header.count as u32;
-        bucket = bucket_next(bucket, slot, &header);
-        slot = slot_next(sizes, slot);
+        header.core == self.core && header.number == number && linked
     }
-    Ok((records, entries))
-}
 
-fn check_cores<M: Memory>(log: &Log<M>, sizes: &Sizes) -> Result<(u32, u32), LogFault>
-    requires cores { length (world M.Memory.meaning log.now).block ≡ sizes.now.cores }
-    requires bounded { Bounded sizes.now }
-    requires on { (world M.Memory.meaning log.now).memory.on ≡ true }
-    ensures { result ≡ checked sizes.now (content_at (world M.Memory.meaning log.now).memory) 0 (world M.Memory.meaning log.now).block }
-{
-    let mut records = 0;
-    let mut entries = 0;
-    for core in 0..sizes.cores {
-        let (more, others) = check_core(log, sizes, core)?;
-        records += more;
-        entries += others;
+    // The next record's header, if there is such a record, numbered so, and its header is good and fits.
+    fn header<M: Memory>(&self, log: &Log<M>, number: u32) -> Option<Header>
+        // power may go at any operation of a memory, so that it is on cannot be a fact of the log's type
+        requires on { (world log.now).memory.on ≡ true }
+        ensures { result ≡ header_here (state log.now) self.now number }
+    {
+        let sizes = log.sizes();
+        if !self.id.is_in(&sizes) {
+            return None;
+        }
+        let line = self.id.header_line(&sizes) as u16;
+        let bytes = log.memory().read(line).ok()?;
+        decode(&sizes, &bytes).filter(|header| self.fits(&sizes, number, header))
     }
-    Ok((records, entries))
-}
 
-// The memory has power, and the lines of the log.
-fn is_ready<M: Memory>(log: &Log<M>, sizes: &Sizes) -> bool
-    ensures { result ≡ ready sizes.now (world M.Memory.meaning log.now).memory }
-{
-    log.memory().is_on() && sizes.lines_needed() <= log.memory().line_count()
-}
-
-// Checks every closed record of every core: how many records and entries there are, or the first place that fails.
-pub fn check<M: Memory>(log: &Log<M>) -> Result<(u32, u32), LogFault>
-    ensures checks { Checks (notes_of log.now).sizes (world M.Memory.meaning log.now) result }
-    ensures ends { Ends (notes_of log.now).sizes (world M.Memory.meaning log.now).block }
-{
-    let sizes = log.sizes();
-    if !is_ready(log, &sizes) {
-        return Err(LogFault::NotReady);
+    // The next record; none after record 0 of the update, and a fault where a header fails.
+    pub(crate) fn next<M: Memory>(&mut self, log: &Log<M>) -> Result<Option<Found>, LogFault>
+        requires on { (world log.now).memory.on ≡ true }
+        ensures { Next (state log.now) self.old result self.new }
+    {
+        let Some(number) = self.left.checked_sub(1) else {
+            return Ok(None);
+        };
+        let Cursor { core, id, .. } = *self;
+        let header = self
+            .header(log, number)
+            .ok_or(LogFault::BadHeader { core, id })?;
+        let found = Found { id, header };
+        self.left = number;
+        self.id = found.onward(&log.sizes());
+        Ok(Some(found))
     }
-    check_cores(log, &sizes)
 }
