@@ -2,24 +2,25 @@
 use Rattle.std.proofs.Common.{◌≡◌, ℕ, zero, suc, ◌+◌, ◌-◌, ◌*◌, ◌^◌, ◌<◌, ◌≤◌, Bool, true, false, cond, eqb, ltb, ◌⊎◌, List, ◌∷◌, Some, None, Option, sym, refl, ap, ◌∙◌, subst, inl, inr, ⊎_elim, suc-mul, zero-mul, arith}
 use lib.Bits.{bit_or}
 use Rattle.std.proofs.lemmas.Bool.{eq-eqb, ne_eqb, lt-ltb, and_from, and_parts, cond-true, cond-false}
+use Rattle.std.proofs.lemmas.Option.{cond_some}
 use Rattle.memory.specs.Meaning.{Line}
 use Rattle.layout.specs.declared.block.BlockEntry.{BlockEntry}
 use Rattle.layout.specs.declared.sizes.Sizes.{Sizes}
 use Rattle.layout.specs.Block.{empty, has, buckets_in, records_of, counting, Filled}
-use Rattle.layout.specs.Places.{header_line, in_log}
+use Rattle.layout.specs.Places.{record_id, header_line, in_log}
 use Rattle.layout.proofs.Vectors.{has_old, count_new, or_old, some_in, none_in}
 use Rattle.header.specs.declared.Header.{Header}
 use Rattle.header.specs.Header.{read_header}
-use Rattle.recovery.specs.Walk.{Found, Walk, finds, walk, walk_of, fits, fitting, adding, bucket_next, slot_next, turn, header_at}
+use Rattle.recovery.specs.declared.walk.Found.{Found}
+use Rattle.recovery.specs.Walk.{finds, walk, walk_of, fits, fitting, adding, bucket_next, slot_next, turn, header_at}
 use Rattle.survival.specs.Proper.{Next}
-use Rattle.survival.proofs.Alike.{never, split}
-
-none_some : (h : Header) → None ≡ Some h → ⊥
-none_some h q = let z : ◌≡◌ {A = ℕ} 0 1 = cc in omega arith
+use Rattle.recovery.proofs.Ends.{none_of}
+use Rattle.recovery.proofs.Same.{every, walk_finds}
+use Rattle.recovery.proofs.Walks.{walk_none}
 
 -- ---- a larger vector finds the same
 
-abbrev pub Within : BlockEntry → BlockEntry → Type 0
+abbrev Within : BlockEntry → BlockEntry → Type 0
 Within e e' = (c : ℕ) → has e.vector c ≡ true → has e'.vector c ≡ true
 
 -- the bucket before is as it must be
@@ -40,11 +41,9 @@ fits_more s k e e' n h more q = let (x, y) = and_parts _ _ q in and_from _ _ x (
 fitting_more : (s : Sizes) (k : ℕ) (e e' : BlockEntry) (n : ℕ) (o : Option Header) (h : Header) → Within e e'
     → fitting s k e n o ≡ Some h → fitting s k e' n o ≡ Some h
 fitting_more s k e e' n None h more q = q
-fitting_more s k e e' n (Some g) h more q = go (fits s k e n g) refl
-  where
-    go : (t : Bool) → fits s k e n g ≡ t → cond (fits s k e' n g) (Some g) None ≡ Some h
-    go true t = cond-true _ _ _ (fits_more s k e e' n g more t) ∙ sym (cond-true _ (Some g) None t) ∙ q
-    go false t = absurd (none_some h (sym (cond-false _ (Some g) None t) ∙ q))
+fitting_more s k e e' n (Some g) h more q =
+    let (t, same) = cond_some (fits s k e n g) g h q in
+    cond-true _ _ _ (fits_more s k e e' n g more t) ∙ ap Some same
 
 header_at_more : (s : Sizes) (lines : ℕ → Line) (k : ℕ) (e e' : BlockEntry) (n b r : ℕ) (h : Header) → Within e e'
     → header_at s lines k e n b r ≡ Some h → header_at s lines k e' n b r ≡ Some h
@@ -56,22 +55,10 @@ header_at_more s lines k e e' n b r h more = go (in_log s b r)
     go true q = fitting_more s k e e' n (read_header s (lines (header_line s b r))) h more q
     go false q = q
 
-turn_more : (s : Sizes) (b r : ℕ) (on on' : ℕ → ℕ → Walk) (o o' : Option Header) (fs : List Found)
-    → ((h : Header) → o ≡ Some h → o' ≡ Some h) → ((b r : ℕ) (gs : List Found) → on b r ≡ finds gs → on' b r ≡ finds gs)
-    → turn s b r on o ≡ finds fs → turn s b r on' o' ≡ finds fs
-turn_more s b r on on' None o' fs same later w = absurd (never b r fs w)
-turn_more s b r on on' (Some h) o' fs same later w =
-    let f : Found = record { bucket = b; slot = r; header = h } in
-    let (gs, here, is) = split f (on (bucket_next b r h) (slot_next s r)) fs w in
-    ap (turn s b r on') (same h refl) ∙ ap (adding f) (later (bucket_next b r h) (slot_next s r) gs here) ∙ ap finds (sym is)
-
 walk_more : (s : Sizes) (lines : ℕ → Line) (k : ℕ) (e e' : BlockEntry) (n b r : ℕ) (fs : List Found) → Within e e'
     → walk s lines k e n b r ≡ finds fs → walk s lines k e' n b r ≡ finds fs
-unfolding walk
-walk_more s lines k e e' zero b r fs more w = w
-walk_more s lines k e e' (suc n) b r fs more w =
-    turn_more s b r (walk s lines k e n) (walk s lines k e' n) (header_at s lines k e n b r) (header_at s lines k e' n b r) fs
-    (λ h q. header_at_more s lines k e e' n b r h more q) (λ b r gs. walk_more s lines k e e' n b r gs more) w
+walk_more s lines k e e' n b r fs more w =
+    walk_finds s lines lines k e e' (λ _. Unit) (λ n b r h _ q. header_at_more s lines k e e' n b r h more q) n b r fs w (every (λ _. Unit) (λ _. tt) fs)
 
 -- ---- one more record
 
@@ -114,21 +101,17 @@ one_more s e b r few next (here is_r is_b is_c fill) =
     let count = or_old 32 e.vector b (subst (λ (c : ℕ). has e.vector c ≡ true) (sym is_b) fill.current) in
     ap (λ (x : ℕ). (x - 1) * s.records + (r + 1)) count ∙ omega (arith, is_c)
 
-walk_none : (s : Sizes) (lines : ℕ → Line) (k : ℕ) (e : BlockEntry) (b r b' r' : ℕ) → walk s lines k e 0 b r ≡ walk s lines k e 0 b' r'
-unfolding walk
-walk_none s lines k e b r b' r' = refl
-
 pub records_none : (s : Sizes) (e : BlockEntry) → e ≡ empty → records_of s e ≡ 0
-records_none s e is = ap (records_of s) is ∙ ap (λ (x : ℕ). (x - 1) * s.records + 0) (none_in 32) ∙ omega (arith, zero-mul s.records)
+records_none s e is = ap (records_of s) is ∙ none_of s
 
 -- from the new record the walk goes on to where it began before
 walk_on : (s : Sizes) (lines : ℕ → Line) (k : ℕ) (e : BlockEntry) (b r : ℕ) (h : Header) (fs : List Found) → Stands s e b r
     → (r ≡ 0 → h.before ≡ e.current) → walk s lines k e (records_of s e) e.current (e.closed - 1) ≡ finds fs
     → walk s lines k e (records_of s e) (bucket_next b r h) (slot_next s r) ≡ finds fs
 walk_on s lines k e b r h fs (none is_r is) first w =
-    subst
-    (λ (n : ℕ). walk s lines k e n e.current (e.closed - 1) ≡ finds fs → walk s lines k e n (bucket_next b r h) (slot_next s r) ≡ finds fs)
-    (sym (records_none s e is)) (λ v. walk_none s lines k e (bucket_next b r h) (slot_next s r) e.current (e.closed - 1) ∙ v) w
+    let zero = records_none s e is in
+    walk_none s lines k e (records_of s e) (bucket_next b r h) (slot_next s r) zero
+    ∙ sym (walk_none s lines k e (records_of s e) e.current (e.closed - 1) zero) ∙ w
 walk_on s lines k e b r h fs (full is_r is_c fill) first w =
     ap (λ (i : ℕ). walk s lines k e (records_of s e) (bucket_next b i h) (slot_next s i)) is_r
     ∙ ap (λ (c : ℕ). walk s lines k e (records_of s e) c (s.records - 1)) (first is_r)
@@ -144,13 +127,13 @@ walk_on s lines k e b r h fs (here is_r is_b is_c fill) first w =
 pub added_walk : (s : Sizes) (lines : ℕ → Line) (k : ℕ) (e : BlockEntry) (b r : ℕ) (h : Header) (fs : List Found) → s.buckets ≤ 32
     → Next s e b r → Stands s e b r → read_header s (lines (header_line s b r)) ≡ Some h → h.core ≡ k → h.number ≡ records_of s e
     → linked s (counting e b r) (records_of s e) h ≡ true → (r ≡ 0 → h.before ≡ e.current)
-    → walk_of s lines k e ≡ finds fs → walk_of s lines k (counting e b r) ≡ finds (record { bucket = b; slot = r; header = h } ∷ fs)
+    → walk_of s lines k e ≡ finds fs → walk_of s lines k (counting e b r) ≡ finds (record { id = record_id b r; header = h } ∷ fs)
 unfolding walk_of walk header_at
 added_walk s lines k e b r h fs few next stand reads is_core is_number link first w =
     ap (λ (n : ℕ). walk s lines k (counting e b r) n b (r + 1 - 1)) (one_more s e b r few next stand)
     ∙ ap (λ (i : ℕ). walk s lines k (counting e b r) (suc (records_of s e)) b i) same_slot
     ∙ ap (turn s b r (walk s lines k (counting e b r) (records_of s e))) fitted
-    ∙ ap (adding (record { bucket = b; slot = r; header = h }))
+    ∙ ap (adding (record { id = record_id b r; header = h }))
     (walk_more s lines k e (counting e b r) (records_of s e) (bucket_next b r h) (slot_next s r) fs (has_old e.vector b)
     (walk_on s lines k e b r h fs stand first w))
   where

@@ -1,25 +1,25 @@
 -- A start with an empty block: it is a block, and every log is in order and without records.
-use Rattle.std.proofs.Common.{◌≡◌, ℕ, zero, suc, ◌-◌, ◌<◌, ◌≤◌, min, true, false, List, [], length, get_or, take, replicate, Some, None, Option, Result, sym, refl, ap, ◌∙◌, subst, ⊎_elim, arith}
-use Rattle.std.proofs.lemmas.List.{get_or-replicate, get_or_past, length-replicate, take-replicate}
-use Rattle.std.proofs.lemmas.Bool.{and_parts, and_from, leb-true, eq-eqb, cases_lt, cases_Bool}
+use Rattle.std.proofs.Common.{◌≡◌, ℕ, zero, suc, ◌-◌, ◌≤◌, min, true, false, List, [], length, take, replicate, None, Option, Result, sym, refl, ap, ◌∙◌, subst, ⊎_elim, arith}
+use Rattle.std.proofs.lemmas.List.{length-replicate, take-replicate}
+use Rattle.std.proofs.lemmas.Bool.{and_parts, and_from, leb-true, eq-eqb, cases_Bool}
 use Rattle.memory.specs.Meaning.{Line, content_at}
 use Rattle.layout.specs.declared.block.BlockEntry.{BlockEntry}
 use Rattle.layout.specs.declared.open.OpenRecord.{OpenRecord}
 use Rattle.layout.specs.declared.sizes.Sizes.{Sizes}
-use Rattle.layout.specs.Block.{empty, entry_at, all_sound, block_sound}
+use Rattle.layout.specs.Block.{empty, entry_at, records_of, all_sound, block_sound}
 use Rattle.layout.specs.Sizes.{sizes_fit}
 use Rattle.layout.proofs.Blocks.{block_rules}
 use Rattle.undo_log.specs.declared.fault.LogFault.{LogFault}
 use Rattle.undo_log.specs.Calls.{Starts}
-use Rattle.undo_log.specs.Closing.{Notes, open_at, blank_notes}
+use Rattle.undo_log.specs.Closing.{state_of, Notes, blank_notes}
 use Rattle.undo_log.specs.Steps.{World}
-use Rattle.undo_log.proofs.Starting.{fit_bounds}
-use Rattle.recovery.specs.Walk.{finds, walk, walk_of}
+use Rattle.recovery.specs.Walk.{finds, walk_of}
 use Rattle.survival.specs.Calls.{Begins, OrderlyStart}
 use Rattle.survival.specs.Held.{Holds}
 use Rattle.survival.specs.Orderly.{Chained, Tidy, Orderly}
+use Rattle.recovery.proofs.Records.{get_or-blank}
+use Rattle.recovery.proofs.Walks.{walk_none}
 use Rattle.survival.proofs.Added.{records_none}
-use Rattle.survival.proofs.Closes.{ok_err}
 
 all_empty : (s : Sizes) (n : ℕ) → all_sound s 0 (replicate n empty) ≡ true
 unfolding all_sound
@@ -29,18 +29,17 @@ all_empty s (suc n) = all_empty s n
 empty_block : (s : Sizes) → block_sound s (replicate s.cores empty) ≡ true
 empty_block s = and_from _ _ (eq-eqb _ s.cores (length-replicate s.cores empty)) (all_empty s s.cores)
 
-every : {A : Type 0} (n k : ℕ) (x : A) → get_or (replicate n x) k x ≡ x
-every n k x =
-    ⊎_elim (λ (h : k < n). get_or-replicate n k x x h) (λ (h : n ≤ k). get_or_past (replicate n x) k x (omega (arith, length-replicate n x))) (cases_lt k n)
+few_cores : (s : Sizes) (n : ℕ) → sizes_fit s n ≡ true → s.cores ≤ 32
+few_cores s n h = leb-true s.cores 32 (and_parts _ _ (and_parts _ _ (and_parts _ _ (and_parts _ _ h).0).0).1).1
 
-pub begins : (s : Sizes) (es : List BlockEntry) (n : Notes) (w : World) (r : Result Unit LogFault) (n' : Notes) (w' : World) → Starts s es n w r n' w'
-    → (s.cores ≤ 32 → es ≡ replicate s.cores empty) → Begins s n w r n' w'
+pub begins : (s : Sizes) (es : List BlockEntry) (n : Notes) (w : World) (r : Result Unit LogFault) (n' : Notes) (w' : World) → Starts s es (state_of n w) r (state_of n' w')
+    → (s.cores ≤ 32 → es ≡ replicate s.cores empty) → Begins s (state_of n w) r (state_of n' w')
 begins s es n w r n' w' starts is =
     record {
       unfit = starts.unfit;
       done =
           λ fit.
-          let same = is (fit_bounds s (length w.memory.lines) fit).cores in
+          let same = is (few_cores s (length w.memory.lines) fit) in
           let (ok, (notes, (block, cuts))) = starts.done fit (ap (block_sound s) same ∙ empty_block s) in
           (ok, (notes, (block ∙ same, cuts)));
     }
@@ -54,9 +53,9 @@ first_empty cores n e is_n is h =
 -- ---- in order
 
 -- an empty entry has no records
-pub empty_walk : (s : Sizes) (lines : ℕ → Line) (k : ℕ) (e : BlockEntry) → e ≡ empty → walk_of s lines k e ≡ finds []
-unfolding walk_of walk
-empty_walk s lines k e is = ap (λ (n : ℕ). walk s lines k e n e.current (e.closed - 1)) (records_none s e is)
+empty_walk : (s : Sizes) (lines : ℕ → Line) (k : ℕ) (e : BlockEntry) → e ≡ empty → walk_of s lines k e ≡ finds []
+unfolding walk_of
+empty_walk s lines k e is = walk_none s lines k e (records_of s e) e.current (e.closed - 1) (records_none s e is)
 
 pub empty_holds : (s : Sizes) (w : World) (k : ℕ) → entry_at w.block k ≡ empty → Holds s w k []
 empty_holds s w k is = record { walked = empty_walk s (content_at w.memory) k (entry_at w.block k) is; placed = tt; durable = tt }
@@ -79,27 +78,21 @@ blank_tidy s some =
     record {
       records = some;
       rules = block_rules s (replicate s.cores empty) (empty_block s);
-      chained = λ k. empty_chained s _ _ (every s.cores k empty);
-      opened = λ k o is. absurd (none_open k o is);
+      chained = λ k. empty_chained s _ _ (get_or-blank s.cores k empty);
+      opened = λ k o is. cc (get_or-blank {A = Option OpenRecord} s.cores k None, is);
     }
-  where
-    none_open : (k : ℕ) (o : OpenRecord) → open_at (blank_notes s) k ≡ Some o → ⊥
-    none_open k o is =
-        let none = every {A = Option OpenRecord} s.cores k None in
-        let z : ◌≡◌ {A = ℕ} 0 1 = cc in
-        omega arith
 
-pub orderly_start : (s : Sizes) (n : Notes) (w : World) (r : Result Unit LogFault) (n' : Notes) (w' : World) → Begins s n w r n' w' → OrderlyStart r n' w'
+pub orderly_start : (s : Sizes) (n : Notes) (w : World) (r : Result Unit LogFault) (n' : Notes) (w' : World) → Begins s (state_of n w) r (state_of n' w') → OrderlyStart r (state_of n' w')
 orderly_start s n w r n' w' did ok k = ⊎_elim fit unfit (cases_Bool (sizes_fit s (length w.memory.lines)))
   where
-    fit : sizes_fit s (length w.memory.lines) ≡ true → Orderly n' w' k []
+    fit : sizes_fit s (length w.memory.lines) ≡ true → Orderly (state_of n' w') k []
     fit h =
         let (_, (notes, (block, _))) = did.done h in
-        subst (λ (m : Notes). Orderly m w' k []) (sym notes)
+        subst (λ (m : Notes). Orderly (state_of m w') k []) (sym notes)
         (record {
           tidy = subst (Tidy (blank_notes s)) (sym block) (blank_tidy s (some_records s (length w.memory.lines) h));
-          holds = empty_holds s w' k (ap (λ (es : List BlockEntry). entry_at es k) block ∙ every s.cores k empty);
+          holds = empty_holds s w' k (ap (λ (es : List BlockEntry). entry_at es k) block ∙ get_or-blank s.cores k empty);
         })
 
-    unfit : sizes_fit s (length w.memory.lines) ≡ false → Orderly n' w' k []
-    unfit h = absurd (ok_err r _ ok (did.unfit h).0)
+    unfit : sizes_fit s (length w.memory.lines) ≡ false → Orderly (state_of n' w') k []
+    unfit h = cc (ok, (did.unfit h).0)

@@ -21,34 +21,34 @@ not_last zero records closed part h = absurd (omega (arith, zero-mul records))
 not_last (suc m) records closed part h = omega (arith, suc-mul m records)
 
 pub chained_more : (s : Sizes) (e : BlockEntry) (was : ℕ) (o : OpenRecord) → s.buckets ≤ 32 → Proper s e was o
-    → Chained s (counting e o.bucket o.slot) (bucket_before e was o)
-chained_more s e was o few p = go (stands s e o.bucket o.slot p.sound p.next)
+    → Chained s (counting e o.id.bucket o.id.slot) (bucket_before e was o)
+chained_more s e was o few p = go (stands s e o.id.bucket o.id.slot p.sound p.next)
   where
-    go : Stands s e o.bucket o.slot → Chained s (counting e o.bucket o.slot) (bucket_before e was o)
+    go : Stands s e o.id.bucket o.id.slot → Chained s (counting e o.id.bucket o.id.slot) (bucket_before e was o)
     go (none is_r is) =
-        let one = one_more s e o.bucket o.slot few p.next (none is_r is) in
+        let one = one_more s e o.id.bucket o.id.slot few p.next (none is_r is) in
         let zero = records_none s e is in
         record {
-          first = λ _ _ _. cond-true _ _ _ (eq-eqb o.slot 0 is_r) ∙ ap (λ (x : BlockEntry). x.current) is;
+          first = λ _ _ _. cond-true _ _ _ (eq-eqb o.id.slot 0 is_r) ∙ ap (λ (x : BlockEntry). x.current) is;
           later = λ some part h. absurd (omega (arith, one, zero));
         }
     go (full is_r is_c fill) =
-        let one = one_more s e o.bucket o.slot few p.next (full is_r is_c fill) in
+        let one = one_more s e o.id.bucket o.id.slot few p.next (full is_r is_c fill) in
         record {
           first = λ some part h. absurd (omega (arith, one, full_records s e is_c));
           later =
               λ _ _ _.
-              has_old e.vector o.bucket (bucket_before e was o)
-              (subst (λ (c : ℕ). has e.vector c ≡ true) (sym (cond-true _ _ _ (eq-eqb o.slot 0 is_r))) fill.current);
+              has_old e.vector o.id.bucket (bucket_before e was o)
+              (subst (λ (c : ℕ). has e.vector c ≡ true) (sym (cond-true _ _ _ (eq-eqb o.id.slot 0 is_r))) fill.current);
         }
     go (here is_r is_b is_c fill) =
-        let one = one_more s e o.bucket o.slot few p.next (here is_r is_b is_c fill) in
-        let is : bucket_before e was o ≡ was = cond-false _ _ _ (ne_eqb o.slot 0 (λ q. omega arith)) in
+        let one = one_more s e o.id.bucket o.id.slot few p.next (here is_r is_b is_c fill) in
+        let is : bucket_before e was o ≡ was = cond-false _ _ _ (ne_eqb o.id.slot 0 (λ q. omega arith)) in
         record {
           first = λ some part h. is ∙ p.first is_r (omega (arith, one));
           later =
               λ some part h.
-              has_old e.vector o.bucket (bucket_before e was o)
+              has_old e.vector o.id.bucket (bucket_before e was o)
               (subst (λ (c : ℕ). has e.vector c ≡ true) (sym is)
               (p.later is_r (not_last (buckets_in 32 e.vector - 1) s.records e.closed (omega arith) (omega (arith, one)))));
         }

@@ -10,10 +10,10 @@ use Rattle.layout.proofs.Vectors.{has_old, most_in}
 use Rattle.header.specs.declared.Header.{Header}
 use Rattle.header.specs.Header.{read_header, written, Sensible}
 use Rattle.header.proofs.Back.{reads_back, small_lines}
-use Rattle.undo_log.specs.Calls.{Bounded}
 use Rattle.undo_log.specs.Closing.{bucket_before, header_of}
 use Rattle.survival.specs.Proper.{Proper}
 use Rattle.survival.proofs.Added.{Stands, none, full, here, stands, linked, records_none}
+use Rattle.layout.specs.Sizes.{Bounded}
 
 -- the bucket before is as the walk asks, and a header can say it
 record Behind (s : Sizes) (e : BlockEntry) (b r before : ℕ) : Type 0 where
@@ -39,20 +39,20 @@ module _ (s : Sizes) (e : BlockEntry) (b r before : ℕ) where
 pub full_records : (s : Sizes) (e : BlockEntry) → e.closed ≡ s.records → s.records ≤ records_of s e
 full_records s e q = omega arith
 
-behind : (s : Sizes) (e : BlockEntry) (was : ℕ) (o : OpenRecord) → Proper s e was o → Stands s e o.bucket o.slot
-    → Behind s e o.bucket o.slot (bucket_before e was o)
+behind : (s : Sizes) (e : BlockEntry) (was : ℕ) (o : OpenRecord) → Proper s e was o → Stands s e o.id.bucket o.id.slot
+    → Behind s e o.id.bucket o.id.slot (bucket_before e was o)
 behind s e was o p (none is_r is) =
-    behind_first s e o.bucket o.slot (bucket_before e was o) (omega (arith, records_none s e is, p.next.slot))
-    (cond-true _ _ _ (eq-eqb o.slot 0 is_r) ∙ ap (λ (x : BlockEntry). x.current) is)
+    behind_first s e o.id.bucket o.id.slot (bucket_before e was o) (omega (arith, records_none s e is, p.next.slot))
+    (cond-true _ _ _ (eq-eqb o.id.slot 0 is_r) ∙ ap (λ (x : BlockEntry). x.current) is)
 behind s e was o p (full is_r is_c fill) =
-    behind_later s e o.bucket o.slot (bucket_before e was o) fill (full_records s e is_c)
-    (subst (λ (c : ℕ). has e.vector c ≡ true) (sym (cond-true _ _ _ (eq-eqb o.slot 0 is_r))) fill.current)
+    behind_later s e o.id.bucket o.id.slot (bucket_before e was o) fill (full_records s e is_c)
+    (subst (λ (c : ℕ). has e.vector c ≡ true) (sym (cond-true _ _ _ (eq-eqb o.id.slot 0 is_r))) fill.current)
 behind s e was o p (here is_r is_b is_c fill) =
-    let is : bucket_before e was o ≡ was = cond-false _ _ _ (ne_eqb o.slot 0 (λ q. omega arith)) in
+    let is : bucket_before e was o ≡ was = cond-false _ _ _ (ne_eqb o.id.slot 0 (λ q. omega arith)) in
     ⊎_elim
-    (λ (q : records_of s e < s.records). behind_first s e o.bucket o.slot (bucket_before e was o) q (is ∙ p.first is_r q))
+    (λ (q : records_of s e < s.records). behind_first s e o.id.bucket o.id.slot (bucket_before e was o) q (is ∙ p.first is_r q))
     (λ (q : s.records ≤ records_of s e).
-    behind_later s e o.bucket o.slot (bucket_before e was o) fill q (subst (λ (c : ℕ). has e.vector c ≡ true) (sym is) (p.later is_r q)))
+    behind_later s e o.id.bucket o.id.slot (bucket_before e was o) fill q (subst (λ (c : ℕ). has e.vector c ≡ true) (sym is) (p.later is_r q)))
     (cases_lt (records_of s e) s.records)
 
 -- a record's number is small
@@ -70,7 +70,7 @@ closed_few s e b r (here is_r is_b is_c fill) = fill.most
 module _ (s : Sizes) (e : BlockEntry) (was k : ℕ) (o : OpenRecord) (fits : Bounded s) (core : k < s.cores) (p : Proper s e was o) (some : 1 ≤ o.count) (most : o.count ≤ 7) where
   sensible : Sensible s (header_of s e was k o)
   sensible =
-      let stand = stands s e o.bucket o.slot p.sound p.next in
+      let stand = stands s e o.id.bucket o.id.slot p.sound p.next in
       record {
         seven = p.seven;
         some = some;
@@ -79,14 +79,14 @@ module _ (s : Sizes) (e : BlockEntry) (was k : ℕ) (o : OpenRecord) (fits : Bou
         unused = p.unused;
         core = core;
         before = (behind s e was o p stand).good;
-        number = few_records s e fits (closed_few s e o.bucket o.slot stand);
+        number = few_records s e fits (closed_few s e o.id.bucket o.id.slot stand);
       }
 
   pub header_reads : read_header s (written (header_of s e was k o)) ≡ Some (header_of s e was k o)
   header_reads = reads_back s (header_of s e was k o) sensible (small_lines s (header_of s e was k o) sensible (omega (arith, fits.lines)))
 
-  pub header_linked : linked s (counting e o.bucket o.slot) (records_of s e) (header_of s e was k o) ≡ true
-  header_linked = (behind s e was o p (stands s e o.bucket o.slot p.sound p.next)).fits (header_of s e was k o) refl
+  pub header_linked : linked s (counting e o.id.bucket o.id.slot) (records_of s e) (header_of s e was k o) ≡ true
+  header_linked = (behind s e was o p (stands s e o.id.bucket o.id.slot p.sound p.next)).fits (header_of s e was k o) refl
 
-  pub header_first : o.slot ≡ 0 → (header_of s e was k o).before ≡ e.current
-  header_first q = cond-true _ _ _ (eq-eqb o.slot 0 q)
+  pub header_first : o.id.slot ≡ 0 → (header_of s e was k o).before ≡ e.current
+  header_first q = cond-true _ _ _ (eq-eqb o.id.slot 0 q)

@@ -10,7 +10,8 @@ use Rattle.layout.specs.Block.{entry_at, has}
 use Rattle.layout.specs.Places.{entry_line}
 use Rattle.layout.proofs.Apart.{lines_apart}
 use Rattle.undo_log.specs.Steps.{World}
-use Rattle.recovery.specs.Walk.{Found, walk_of}
+use Rattle.recovery.specs.declared.walk.Found.{Found}
+use Rattle.recovery.specs.Walk.{walk_of}
 use Rattle.survival.specs.Held.{Placed, DurableRecord, Holds, Kept}
 use Rattle.survival.specs.Proper.{Next}
 use Rattle.survival.proofs.Alike.{Alike, walk_of_alike, entries_of_alike}
@@ -21,7 +22,7 @@ both g [] p q = tt
 both g (f ∷ fs) p q = (g f p.0 q.0, both g fs p.1 q.1)
 
 abbrev pub SparedRecord : Sizes → Meaning → Meaning → Found → Type 0
-SparedRecord s m m' f = (i : ℕ) → i ≤ f.header.count → Spared m m' (entry_line s f.bucket f.slot i)
+SparedRecord s m m' f = (i : ℕ) → i ≤ f.header.count → Spared m m' (entry_line s f.id.bucket f.id.slot i)
 
 pub alike : (s : Sizes) (m m' : Meaning) (fs : List Found) → All (DurableRecord s m) fs → All (SparedRecord s m m') fs
     → All (Alike s (content_at m) (content_at m')) fs
@@ -54,14 +55,19 @@ then_kept s k w v w' fs a b = record { holds = b.holds; same = b.same ∙ a.same
 
 -- no closed record of the entry e lies there
 abbrev pub Unplaced : Sizes → BlockEntry → ℕ → ℕ → Type 0
-Unplaced s e b r = (f : Found) → Placed s e f → f.bucket ≡ b → f.slot ≡ r → ⊥
+Unplaced s e b r = (f : Found) → Placed s e f → f.id.bucket ≡ b → f.id.slot ≡ r → ⊥
 
-pub next_unplaced : (s : Sizes) (e : BlockEntry) (b r : ℕ) → Next s e b r → Unplaced s e b r
-next_unplaced s e b zero next f p q z = both_ways (has e.vector b) (next.fresh refl) (subst (λ (c : ℕ). has e.vector c ≡ true) q p.held)
-next_unplaced s e b (suc r) next f p q z =
+-- the closed records in its bucket come before the next
+pub placed_before : (s : Sizes) (e : BlockEntry) (b r : ℕ) → Next s e b r → (f : Found) → Placed s e f → f.id.bucket ≡ b → f.id.slot < r
+placed_before s e b zero next f p q =
+    absurd (both_ways (has e.vector b) (next.fresh refl) (subst (λ (c : ℕ). has e.vector c ≡ true) q p.held))
+placed_before s e b (suc r) next f p q =
     let (is_b, is_r) = next.here (omega arith) in
     let y = p.earlier (q ∙ is_b) in
     omega arith
+
+pub next_unplaced : (s : Sizes) (e : BlockEntry) (b r : ℕ) → Next s e b r → Unplaced s e b r
+next_unplaced s e b r next f p q z = let y = placed_before s e b r next f p q in omega arith
 
 pub foreign_unplaced : (s : Sizes) (e : BlockEntry) (b r : ℕ) → has e.vector b ≡ false → Unplaced s e b r
 foreign_unplaced s e b r h f p q z = both_ways (has e.vector b) h (subst (λ (c : ℕ). has e.vector c ≡ true) q p.held)
@@ -70,9 +76,9 @@ foreign_unplaced s e b r h f p q z = both_ways (has e.vector b) h (subst (λ (c 
 pub others_spared : (s : Sizes) (e : BlockEntry) (b r i : ℕ) (m m' : Meaning) (fs : List Found) → Unplaced s e b r → r < s.records → i ≤ 7
     → ((j : ℕ) → (j ≡ entry_line s b r i → ⊥) → Spared m m' j) → All (Placed s e) fs → All (SparedRecord s m m') fs
 others_spared s e b r i m m' fs free slot h spared =
-    All-weaker (Placed s e) (SparedRecord s m m') (λ f p n le. spared (entry_line s f.bucket f.slot n) (apart f p n le)) fs
+    All-weaker (Placed s e) (SparedRecord s m m') (λ f p n le. spared (entry_line s f.id.bucket f.id.slot n) (apart f p n le)) fs
   where
-    apart : (f : Found) → Placed s e f → (n : ℕ) → n ≤ f.header.count → entry_line s f.bucket f.slot n ≡ entry_line s b r i → ⊥
+    apart : (f : Found) → Placed s e f → (n : ℕ) → n ≤ f.header.count → entry_line s f.id.bucket f.id.slot n ≡ entry_line s b r i → ⊥
     apart f p n le q =
-        let (x, y, _) = (lines_apart s f.bucket f.slot n).alone b r i p.slot slot (omega (arith, p.seven)) h q in
+        let (x, y, _) = (lines_apart s f.id.bucket f.id.slot n).alone b r i p.slot slot (omega (arith, p.seven)) h q in
         free f p x y

@@ -1,9 +1,9 @@
 -- The calls that write no record keep every log in order, and the one that empties a core's entry all others.
-use Rattle.std.proofs.Common.{◌≡◌, ℕ, ◌<◌, ◌≤◌, true, ◌⊎◌, List, length, get_or, set, Some, None, Ok, Result, sym, refl, ap, ◌∙◌, subst, inl, inr, ⊎_elim, arith}
+use Rattle.std.proofs.Common.{◌≡◌, ℕ, ◌<◌, ◌≤◌, true, ◌⊎◌, List, length, get_or, set, Some, None, Result, sym, ap, ◌∙◌, subst, inl, inr, ⊎_elim, arith}
 use Rattle.std.proofs.ByRecursion.{All-weaker}
 use Rattle.std.proofs.lemmas.List.{get_or-set_same, get_or-set_other, get_or_past, length-set}
 use Rattle.std.proofs.lemmas.Bool.{cases_lt, cases_eq, cases_Bool, both_ways}
-use Rattle.memory.specs.Meaning.{Line, powered_up}
+use Rattle.memory.specs.Meaning.{Line}
 use Rattle.layout.specs.declared.block.BlockEntry.{BlockEntry}
 use Rattle.layout.specs.declared.open.OpenRecord.{OpenRecord}
 use Rattle.layout.specs.Block.{empty, entry_at, has, Filled}
@@ -12,10 +12,10 @@ use Rattle.layout.specs.Sizes.{data_lines_of}
 use Rattle.layout.proofs.Vectors.{has_none}
 use Rattle.undo_log.specs.declared.fault.Place.{Place}
 use Rattle.undo_log.specs.declared.fault.LogFault.{LogFault}
-use Rattle.undo_log.specs.Calls.{WritesData}
-use Rattle.undo_log.specs.Closing.{Notes, open_at, before_at, noting}
-use Rattle.undo_log.specs.Steps.{World, fence, enter, Does}
-use Rattle.recovery.specs.Walk.{Found}
+use Rattle.undo_log.specs.Calls.{WritesData, Empties}
+use Rattle.undo_log.specs.Closing.{state_of, Notes, State, Takes, open_at, before_at, noting}
+use Rattle.undo_log.specs.Steps.{World, fence}
+use Rattle.recovery.specs.declared.walk.Found.{Found}
 use Rattle.survival.specs.Calls.{AllOrderly, OrderlyEmpty}
 use Rattle.survival.specs.Held.{DurableRecord, Holds}
 use Rattle.survival.specs.Orderly.{Chained, Own, Tidy, Orderly}
@@ -28,33 +28,30 @@ use Rattle.survival.proofs.Tidies.{chained_as, proper_as}
 -- ---- calls that write no line of a record
 
 module _ (n n' : Notes) (w w' : World) (is_n : n' ≡ n) (is_b : w'.block ≡ w.block) where
-  orderly_kept : ((b r i : ℕ) → Spared w.memory w'.memory (entry_line n.sizes b r i)) → AllOrderly n w n' w'
+  orderly_kept : ((b r i : ℕ) → Spared w.memory w'.memory (entry_line n.sizes b r i)) → AllOrderly (state_of n w) (state_of n' w')
   orderly_kept spared j fs h =
       orderly_from n n' w' j fs (unmoved n n' w w' h.tidy is_n is_b)
       (kept n.sizes j w w' fs h.holds (ap (λ (es : List BlockEntry). entry_at es j) is_b)
-      (All-weaker (DurableRecord n.sizes w.memory) (SparedRecord n.sizes w.memory w'.memory) (λ f _ i _. spared f.bucket f.slot i) fs
+      (All-weaker (DurableRecord n.sizes w.memory) (SparedRecord n.sizes w.memory w'.memory) (λ f _ i _. spared f.id.bucket f.id.slot i) fs
       h.holds.durable)).holds
 
-  pub orderly_power : (k : ℕ) → w'.memory ≡ powered_up w.memory k → AllOrderly n w n' w'
-  orderly_power k is =
-      orderly_kept (λ b r i d. subst (λ m. Spared w.memory m (entry_line n.sizes b r i)) (sym is) (λ e. (refl, e)) d)
+pub orderly_fence : (s s' : State) (p : Place) (r : Result Unit LogFault) → Takes (fence p) s r s' → AllOrderly s s'
+orderly_fence s s' p r takes =
+    let (q, (fences, (_, is_b))) = takes.did in
+    orderly_kept s.notes s'.notes s.world s'.world takes.rest is_b (λ b r i. fences_spared s.world.memory q s'.world.memory _ fences)
 
-pub orderly_fence : (n n' : Notes) (w w' : World) (p : Place) (r : Result Unit LogFault) → n' ≡ n → Does (fence p) w r w' → AllOrderly n w n' w'
-orderly_fence n n' w w' p r is_n (q, (fences, (_, is_b))) = orderly_kept n n' w w' is_n is_b (λ b s i. fences_spared w.memory q w'.memory _ fences)
-
-pub orderly_data : (n n' : Notes) (w w' : World) (p : Place) (l : ℕ) (c : Line) (r : Result Unit LogFault) → n' ≡ n
-    → WritesData n.sizes p l c w r w' → AllOrderly n w n' w'
-orderly_data n n' w w' p l c r is_n did = ⊎_elim inside outside (cases_lt l (data_lines_of n.sizes))
+pub orderly_data : (s s' : State) (p : Place) (l : ℕ) (c : Line) (r : Result Unit LogFault) → WritesData p l c s r s' → AllOrderly s s'
+orderly_data s s' p l c r did = ⊎_elim inside outside (cases_lt l (data_lines_of s.notes.sizes))
   where
-    inside : l < data_lines_of n.sizes → AllOrderly n w n' w'
+    inside : l < data_lines_of s.notes.sizes → AllOrderly s s'
     inside h =
-        let (q, (writes, (_, is_b))) = did.did h in
-        orderly_kept n n' w w' is_n is_b (λ b s i. writes_spared w.memory l c q w'.memory _ (λ e. omega arith) writes)
+        let takes = did.did h in
+        let (q, (writes, (_, is_b))) = takes.did in
+        orderly_kept s.notes s'.notes s.world s'.world takes.rest is_b
+        (λ b r i. writes_spared s.world.memory l c q s'.world.memory _ (λ e. omega arith) writes)
 
-    outside : data_lines_of n.sizes ≤ l → AllOrderly n w n' w'
-    outside h =
-        let is = (did.outside h).1 in
-        orderly_kept n n' w w' is_n (ap (λ (v : World). v.block) is) (λ b s i. same_spared w.memory w'.memory _ (ap (λ (v : World). v.memory) is))
+    outside : data_lines_of s.notes.sizes ≤ l → AllOrderly s s'
+    outside h j fs o = subst (λ (t : State). Orderly t j fs) (sym (did.outside h).1) o
 
 -- ---- an entry emptied
 
@@ -82,12 +79,10 @@ module _ (n : Notes) (es : List BlockEntry) (k : ℕ) (tidy : Tidy n es) where
     where
       other : j ≡ k → ⊥
       other q =
-          let none = emptied_at n.opens k None in
           let here : open_at (noting n k None 255) k ≡ Some o = subst (λ (i : ℕ). open_at (noting n k None 255) i ≡ Some o) q is in
-          let z : ◌≡◌ {A = ℕ} 0 1 = cc in
-          omega arith
+          cc (emptied_at n.opens k None)
 
-  pub tidy_emptied : Tidy (noting n k None 255) (set es k empty)
+  tidy_emptied : Tidy (noting n k None 255) (set es k empty)
   tidy_emptied =
       record {
         records = tidy.records;
@@ -117,12 +112,13 @@ module _ (n : Notes) (es : List BlockEntry) (k : ℕ) (tidy : Tidy n es) where
           record {
             proper = proper_as n.sizes _ _ _ _ o (entry_still j ne) (before_still j ne) own.proper;
             unclaimed =
-                λ i other. ⊎_elim (λ (h : _). absurd (both_ways _ (own.unclaimed i other) (had_then i o.bucket h))) (λ (h : _). h) (cases_Bool _);
+                λ i other. ⊎_elim (λ (h : _). absurd (both_ways _ (own.unclaimed i other) (had_then i o.id.bucket h))) (λ (h : _). h) (cases_Bool _);
             unshared = λ i other p is. own.unshared i other p (open_then i p is).1;
           }
 
-pub orderly_empty : (n n' : Notes) (w w' : World) (k : ℕ) → n' ≡ noting n k None 255 → Does (enter k empty) w (Ok tt) w' → OrderlyEmpty n w k n' w'
-orderly_empty n n' w w' k is_n (_, (is_m, is_b)) =
+pub orderly_empty : (n n' : Notes) (w w' : World) (k : ℕ) → Empties k (state_of n w) (state_of n' w') → OrderlyEmpty (state_of n w) k (state_of n' w')
+orderly_empty n n' w w' k did =
+    let (_, (is_m, is_b)) = did.did in
     record {
       own =
           λ tidy.
@@ -135,7 +131,7 @@ orderly_empty n n' w w' k is_n (_, (is_m, is_b)) =
           (λ f _ i _. same_spared w.memory w'.memory _ is_m) fs h.holds.durable)).holds;
     }
   where
-    orderly : Tidy n w.block → (j : ℕ) (fs : List Found) → Holds n.sizes w' j fs → Orderly n' w' j fs
+    orderly : Tidy n w.block → (j : ℕ) (fs : List Found) → Holds n.sizes w' j fs → Orderly (state_of n' w') j fs
     orderly tidy j fs h =
-        subst (λ (m : Notes). Orderly m w' j fs) (sym is_n)
-        (record { tidy = subst (Tidy (noting n k None 255)) (sym is_b) (tidy_emptied n w.block k tidy); holds = h })
+        subst (λ (m : Notes). Orderly (state_of m w') j fs) (sym did.notes)
+        (record { tidy = subst (Tidy (noting n k None 255)) (sym did.did.1.1) (tidy_emptied n w.block k tidy); holds = h })

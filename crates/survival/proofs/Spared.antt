@@ -1,8 +1,9 @@
 -- A durable line that no step writes keeps its content and stays durable, whatever becomes of the power.
-use Rattle.std.proofs.Common.{◌≡◌, ℕ, ◌<◌, ◌≤◌, true, false, ◌⊎◌, List, [], length, get_or, Result, sym, refl, ap, ◌∙◌, subst, inl, inr, ⊎_elim, arith}
+use Rattle.std.proofs.Common.{◌≡◌, ℕ, ◌<◌, true, false, List, [], length, get_or, Result, sym, refl, ap, ◌∙◌, subst, ⊎_elim}
 use Rattle.std.proofs.lemmas.List.{get_or-set_same, get_or-set_other}
-use Rattle.std.proofs.lemmas.Bool.{cases_lt, cases_eq, cases_Bool}
+use Rattle.std.proofs.lemmas.Bool.{cases_Bool}
 use Rattle.memory.specs.declared.fault.MemoryFault.{MemoryFault}
+use Rattle.recovery.proofs.Outcomes.{done, lost, idle, WriteOutcome, FenceOutcome, write_outcome, fence_outcome}
 use Rattle.memory.specs.Meaning.{Meaning, Line, Durable, content_at, loosened, Cut, Wrote, Fenced, Writes, Fences, Cuts}
 
 abbrev pub Spared : Meaning → Meaning → ℕ → Type 0
@@ -33,33 +34,20 @@ loosened_spared : (m : Meaning) (l : ℕ) (m' : Meaning) (j : ℕ) → (j ≡ l 
 loosened_spared m l m' j ne c d = (c.kept j (get_or-set_other m.durable l j false true ne ∙ d), c.safe j)
 
 pub writes_spared : (m : Meaning) (l : ℕ) (c : Line) (q : Result Unit MemoryFault) (m' : Meaning) (j : ℕ) → (j ≡ l → ⊥) → Writes m l c q m' → Spared m m' j
-writes_spared m l c q m' j ne w = there (cases_lt l (length m.lines))
+writes_spared m l c q m' j ne w = go (write_outcome m l c q m' w)
   where
-    left : l < length m.lines → m.on ≡ true → (m.left ≡ 0) ⊎ (m.left ≡ 0 → ⊥) → Spared m m' j
-    left h on (inl z) = loosened_spared m l m' j ne (w.lost h on z).1
-    left h on (inr z) = wrote_spared m l c m' j ne (w.done h on (omega arith)).1
-
-    on : l < length m.lines → (m.on ≡ true) ⊎ (m.on ≡ false) → Spared m m' j
-    on h (inl q) = left h q (cases_eq m.left 0)
-    on h (inr q) = same_spared m m' j (w.dark h q).1
-
-    there : (l < length m.lines) ⊎ (length m.lines ≤ l) → Spared m m' j
-    there (inl h) = on h (cases_Bool m.on)
-    there (inr h) = same_spared m m' j (w.missing h).1
+    go : WriteOutcome m l c q m' → Spared m m' j
+    go (done _ x) = wrote_spared m l c m' j ne x.1
+    go (lost _ _ x) = loosened_spared m l m' j ne x
+    go (idle _ _ x) = same_spared m m' j x
 
 pub fences_spared : (m : Meaning) (q : Result Unit MemoryFault) (m' : Meaning) (j : ℕ) → Fences m q m' → Spared m m' j
-fences_spared m q m' j f = on (cases_Bool m.on)
+fences_spared m q m' j f = go (fence_outcome m q m' f)
   where
-    fenced : Fenced m m' → Spared m m' j
-    fenced g d = (ap (λ (ls : List Line). get_or ls j []) g.content, g.safe j)
-
-    left : m.on ≡ true → (m.left ≡ 0) ⊎ (m.left ≡ 0 → ⊥) → Spared m m' j
-    left q (inl z) = cut_spared m m' j (f.lost q z).1
-    left q (inr z) = fenced (f.done q (omega arith)).1
-
-    on : (m.on ≡ true) ⊎ (m.on ≡ false) → Spared m m' j
-    on (inl q) = left q (cases_eq m.left 0)
-    on (inr q) = same_spared m m' j (f.dark q).1
+    go : FenceOutcome m q m' → Spared m m' j
+    go (done _ x) d = (ap (λ (ls : List Line). get_or ls j []) x.content, x.safe j)
+    go (lost _ _ x) d = cut_spared m m' j x d
+    go (idle _ _ x) d = same_spared m m' j x d
 
 -- ---- a completed write, and a fence after it
 

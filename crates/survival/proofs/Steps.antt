@@ -1,6 +1,5 @@
 -- What the steps of a closing leave: the record is counted and all is durable, or power went and it is not counted.
-use Rattle.std.proofs.Common.{◌≡◌, ℕ, ◌<◌, ◌≤◌, true, false, ◌⊎◌, List, [], ◌∷◌, length, set, Ok, Err, Result, sym, ap, ◌∙◌, subst, inl, inr, ⊎_elim, arith}
-use Rattle.std.proofs.lemmas.Bool.{cases_lt, cases_eq, cases_Bool}
+use Rattle.std.proofs.Common.{◌≡◌, ℕ, ◌<◌, ◌⊎◌, List, [], ◌∷◌, length, set, Ok, Err, Result, sym, ap, ◌∙◌, subst, inl, inr, ⊎_elim}
 use Rattle.memory.specs.declared.fault.MemoryFault.{MemoryFault}
 use Rattle.memory.specs.Meaning.{Line, Wrote, Fenced}
 use Rattle.layout.specs.declared.block.BlockEntry.{BlockEntry}
@@ -8,6 +7,7 @@ use Rattle.undo_log.specs.declared.fault.LogFault.{LogFault}
 use Rattle.undo_log.specs.declared.fault.LogFault.TheVariants.{Memory}
 use Rattle.undo_log.specs.declared.fault.Place.{Place}
 use Rattle.undo_log.specs.Steps.{World, Step, write, fence, enter, placed, Then, Ran}
+use Rattle.recovery.proofs.Outcomes.{done, lost, idle, WriteOutcome, FenceOutcome, write_outcome, fence_outcome}
 use Rattle.survival.proofs.Spared.{Spared, Written, then_spared, writes_spared, fences_spared, fenced_written}
 
 -- the call ended with a fault, the block is as it was, and only line l may have suffered
@@ -16,6 +16,17 @@ pub record Stopped (w : World) (l : ℕ) (r : Result Unit LogFault) (w' : World)
   pub answer : r ≡ Err fault
   pub block : w'.block ≡ w.block
   pub spared : (j : ℕ) → (j ≡ l → ⊥) → Spared w.memory w'.memory j
+
+-- the memory's answer a to a first step at place p decides whether the steps ss follow it
+
+module _ (p : Place) (a : Result Unit MemoryFault) (ss : List Step) (v : World) (r : Result Unit LogFault) (w' : World) (q : Result Unit LogFault) (is : q ≡ placed p a) (after : Then q (Ran ss) v r w') where
+  goes_on : a ≡ Ok tt → Ran ss v r w'
+  goes_on e = subst (λ (q : Result Unit LogFault). Then q (Ran ss) v r w') (is ∙ ap (placed p) e) after
+
+  stops : (w : World) (l : ℕ) (x : MemoryFault) → a ≡ Err x → v.block ≡ w.block → ((j : ℕ) → (j ≡ l → ⊥) → Spared w.memory v.memory j) → Stopped w l r w'
+  stops w l x e block spare =
+      let t : (r ≡ Err (Memory p x)) × (w' ≡ v) = subst (λ (q : Result Unit LogFault). Then q (Ran ss) v r w') (is ∙ ap (placed p) e) after in
+      subst (λ (u : World). Stopped w l r u) (sym t.1) (record { fault = Memory p x; answer = t.0; block = block; spared = spare })
 
 -- a write that completed, and the rest of the steps
 pub record Wrote-on (ss : List Step) (w : World) (l : ℕ) (c : Line) (r : Result Unit LogFault) (w' : World) : Type 0 where
@@ -28,38 +39,16 @@ pub record Wrote-on (ss : List Step) (w : World) (l : ℕ) (c : Line) (r : Resul
 
 pub write_ran : (l : ℕ) (c : Line) (p : Place) (ss : List Step) (w : World) (r : Result Unit LogFault) (w' : World)
     → Ran (write l c p ∷ ss) w r w' → Stopped w l r w' ⊎ Wrote-on ss w l c r w'
-write_ran l c p ss w r w' (q, (v, ((a, (did, (is, block))), after))) = there (cases_lt l (length w.memory.lines))
+write_ran l c p ss w r w' (q, (v, ((a, (did, (is, block))), after))) = go (write_outcome w.memory l c a v.memory did)
   where
     spare : (j : ℕ) → (j ≡ l → ⊥) → Spared w.memory v.memory j
     spare j ne = writes_spared w.memory l c a v.memory j ne did
 
-    stop : (x : MemoryFault) → a ≡ Err x → Stopped w l r w'
-    stop x e =
-        let t : (r ≡ Err (Memory p x)) × (w' ≡ v) = subst (λ (q : Result Unit LogFault). Then q (Ran ss) v r w') (is ∙ ap (placed p) e) after in
-        subst (λ (u : World). Stopped w l r u) (sym t.1) (record { fault = Memory p x; answer = t.0; block = block; spared = spare })
-
-    go : l < length w.memory.lines → a ≡ Ok tt → Wrote w.memory l c v.memory → Wrote-on ss w l c r w'
-    go h e wrote =
-        record {
-          mid = v;
-          inside = h;
-          wrote = wrote;
-          spared = spare;
-          block = block;
-          rest = subst (λ (q : Result Unit LogFault). Then q (Ran ss) v r w') (is ∙ ap (placed p) e) after;
-        }
-
-    left : l < length w.memory.lines → w.memory.on ≡ true → (w.memory.left ≡ 0) ⊎ (w.memory.left ≡ 0 → ⊥) → Stopped w l r w' ⊎ Wrote-on ss w l c r w'
-    left h on (inl z) = inl (stop _ (did.lost h on z).0)
-    left h on (inr z) = let d = did.done h on (omega arith) in inr (go h d.0 d.1)
-
-    on : l < length w.memory.lines → (w.memory.on ≡ true) ⊎ (w.memory.on ≡ false) → Stopped w l r w' ⊎ Wrote-on ss w l c r w'
-    on h (inl q) = left h q (cases_eq w.memory.left 0)
-    on h (inr q) = inl (stop _ (did.dark h q).0)
-
-    there : (l < length w.memory.lines) ⊎ (length w.memory.lines ≤ l) → Stopped w l r w' ⊎ Wrote-on ss w l c r w'
-    there (inl h) = on h (cases_Bool w.memory.on)
-    there (inr h) = inl (stop _ (did.missing h).0)
+    go : WriteOutcome w.memory l c a v.memory → Stopped w l r w' ⊎ Wrote-on ss w l c r w'
+    go (done e x) =
+        inr (record { mid = v; inside = x.0; wrote = x.1; spared = spare; block = block; rest = goes_on p a ss v r w' q is after e })
+    go (lost x e _) = inl (stops p a ss v r w' q is after w l x e block spare)
+    go (idle x e _) = inl (stops p a ss v r w' q is after w l x e block spare)
 
 -- a fence that completed, and the rest of the steps
 record Fenced-on (ss : List Step) (w : World) (r : Result Unit LogFault) (w' : World) : Type 0 where
@@ -70,23 +59,15 @@ record Fenced-on (ss : List Step) (w : World) (r : Result Unit LogFault) (w' : W
 
 fence_ran : (p : Place) (ss : List Step) (w : World) (l : ℕ) (r : Result Unit LogFault) (w' : World)
     → Ran (fence p ∷ ss) w r w' → Stopped w l r w' ⊎ Fenced-on ss w r w'
-fence_ran p ss w l r w' (q, (v, ((a, (did, (is, block))), after))) = on (cases_Bool w.memory.on)
+fence_ran p ss w l r w' (q, (v, ((a, (did, (is, block))), after))) = go (fence_outcome w.memory a v.memory did)
   where
-    stop : (x : MemoryFault) → a ≡ Err x → Stopped w l r w'
-    stop x e =
-        let t : (r ≡ Err (Memory p x)) × (w' ≡ v) = subst (λ (q : Result Unit LogFault). Then q (Ran ss) v r w') (is ∙ ap (placed p) e) after in
-        subst (λ (u : World). Stopped w l r u) (sym t.1)
-        (record { fault = Memory p x; answer = t.0; block = block; spared = λ j ne. fences_spared w.memory a v.memory j did })
+    spare : (j : ℕ) → (j ≡ l → ⊥) → Spared w.memory v.memory j
+    spare j _ = fences_spared w.memory a v.memory j did
 
-    left : w.memory.on ≡ true → (w.memory.left ≡ 0) ⊎ (w.memory.left ≡ 0 → ⊥) → Stopped w l r w' ⊎ Fenced-on ss w r w'
-    left on (inl z) = inl (stop _ (did.lost on z).0)
-    left on (inr z) =
-        let d = did.done on (omega arith) in
-        inr (record { mid = v; fenced = d.1; block = block; rest = subst (λ (q : Result Unit LogFault). Then q (Ran ss) v r w') (is ∙ ap (placed p) d.0) after })
-
-    on : (w.memory.on ≡ true) ⊎ (w.memory.on ≡ false) → Stopped w l r w' ⊎ Fenced-on ss w r w'
-    on (inl q) = left q (cases_eq w.memory.left 0)
-    on (inr q) = inl (stop _ (did.dark q).0)
+    go : FenceOutcome w.memory a v.memory → Stopped w l r w' ⊎ Fenced-on ss w r w'
+    go (done e x) = inr (record { mid = v; fenced = x; block = block; rest = goes_on p a ss v r w' q is after e })
+    go (lost x e _) = inl (stops p a ss v r w' q is after w l x e block spare)
+    go (idle x e _) = inl (stops p a ss v r w' q is after w l x e block spare)
 
 -- the steps completed: c is in line l, all is durable, and the entry is entered
 pub record Entered (w : World) (l : ℕ) (c : Line) (k : ℕ) (e : BlockEntry) (r : Result Unit LogFault) (w' : World) : Type 0 where

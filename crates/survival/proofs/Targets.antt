@@ -1,7 +1,6 @@
 -- In a tidy log, the record that takes a core's next entry is its own.
-use Rattle.std.proofs.Common.{◌≡◌, ℕ, ◌<◌, ◌≤◌, Bool, true, false, cond, ◌⊎◌, List, get_or, replicate, Some, None, Option, sym, refl, ap, subst, inl, inr, ⊎_elim, arith}
-use Rattle.std.proofs.lemmas.List.{get_or-replicate, get_or_past}
-use Rattle.std.proofs.lemmas.Bool.{and_parts, and_cases, ltb-true, ltb-false, cases_Bool, cases_lt, both_ways}
+use Rattle.std.proofs.Common.{◌≡◌, ℕ, ◌<◌, ◌≤◌, Bool, true, false, cond, ◌⊎◌, List, get_or, Some, None, Option, sym, refl, ap, subst, inl, inr, ⊎_elim, arith}
+use Rattle.std.proofs.lemmas.Bool.{and_parts, and_cases, ltb-true, ltb-false, cases_Bool, both_ways}
 use Rattle.layout.specs.declared.block.BlockEntry.{BlockEntry}
 use Rattle.layout.specs.declared.open.OpenRecord.{OpenRecord}
 use Rattle.layout.specs.declared.sizes.Sizes.{Sizes}
@@ -10,11 +9,10 @@ use Rattle.layout.specs.Places.{in_log}
 use Rattle.buckets.specs.Buckets.{free, lowest_free, Free}
 use Rattle.buckets.proofs.Searches.{lowest_free_lem}
 use Rattle.undo_log.specs.Closing.{Notes}
-use Rattle.undo_log.specs.Open.{opening, first_of, next_record, or_next, log_target}
+use Rattle.undo_log.specs.Open.{opening, next_record, log_target}
+use Rattle.recovery.proofs.Records.{get_or-blank}
 use Rattle.survival.specs.Orderly.{Own, Tidy}
-
-blank : (i : ℕ) → ◌≡◌ {A = ℕ} (get_or (replicate 7 0) i 0) 0
-blank i = ⊎_elim (λ (h : i < 7). get_or-replicate 7 i 0 0 h) (λ (h : 7 ≤ i). get_or_past (replicate 7 0) i 0 h) (cases_lt i 7)
+use Rattle.std.specs.Option.{option_map, option_or}
 
 -- an entry whose current bucket has room is filled
 filled_there : (s : Sizes) (e : BlockEntry) → s.buckets ≤ 32 → (e ≡ empty) ⊎ Filled s e → e.current < s.buckets → Filled s e
@@ -44,7 +42,7 @@ module _ (n : Notes) (es : List BlockEntry) (k : ℕ) (tidy : Tidy n es) (few : 
               next = record { bucket = bucket; slot = slot; here = λ _. (refl, refl); fresh = λ q. absurd (omega arith); full = λ q. absurd (omega arith) };
               seven = refl;
               used = λ i lt. absurd (omega arith);
-              unused = λ i _. blank i;
+              unused = λ i _. get_or-blank {A = ℕ} 7 i 0;
               first = λ pos. (tidy.chained k).first pos slot;
               later = λ pos. (tidy.chained k).later pos slot;
             };
@@ -76,7 +74,7 @@ module _ (n : Notes) (es : List BlockEntry) (k : ℕ) (tidy : Tidy n es) (few : 
                   };
               seven = refl;
               used = λ i lt. absurd (omega arith);
-              unused = λ i _. blank i;
+              unused = λ i _. get_or-blank {A = ℕ} 7 i 0;
               first = λ pos. absurd (omega arith);
               later = λ pos. absurd (omega arith);
             };
@@ -88,19 +86,19 @@ module _ (n : Notes) (es : List BlockEntry) (k : ℕ) (tidy : Tidy n es) (few : 
   target_own o = go (get_or n.opens k None) refl
     where
       found : (x : Option ℕ) → x ≡ lowest_free (free es n.opens) n.sizes.buckets 0
-          → in_log n.sizes (entry_at es k).current (entry_at es k).closed ≡ false → first_of x ≡ Some o → Own n es k o
-      found None is h q = absurd (let z : ◌≡◌ {A = ℕ} 0 1 = cc in omega arith)
+          → in_log n.sizes (entry_at es k).current (entry_at es k).closed ≡ false → option_map (λ b. opening b 0) x ≡ Some o → Own n es k o
+      found None is h q = cc
       found (Some b) is h q =
           let (bucket, fresh, _) = (lowest_free_lem es n.opens n.sizes.buckets (Some b) is).some b refl in
           let same : opening b 0 ≡ o = cc in
           subst (Own n es k) same (own_first b h bucket fresh)
 
       next : (t : Bool) → in_log n.sizes (entry_at es k).current (entry_at es k).closed ≡ t
-          → cond t (Some (opening (entry_at es k).current (entry_at es k).closed)) (first_of (lowest_free (free es n.opens) n.sizes.buckets 0)) ≡ Some o
+          → cond t (Some (opening (entry_at es k).current (entry_at es k).closed)) (option_map (λ b. opening b 0) (lowest_free (free es n.opens) n.sizes.buckets 0)) ≡ Some o
           → Own n es k o
       next true h q = let same : opening (entry_at es k).current (entry_at es k).closed ≡ o = cc in subst (Own n es k) same (own_next h)
       next false h q = found _ refl h q
 
-      go : (x : Option OpenRecord) → get_or n.opens k None ≡ x → or_next x (next_record n.sizes es n.opens (entry_at es k)) ≡ Some o → Own n es k o
+      go : (x : Option OpenRecord) → get_or n.opens k None ≡ x → option_or x (next_record n.sizes es n.opens (entry_at es k)) ≡ Some o → Own n es k o
       go (Some p) is q = let same : p ≡ o = cc in subst (Own n es k) same (tidy.opened k p is).1
       go None is q = next (in_log n.sizes (entry_at es k).current (entry_at es k).closed) refl q

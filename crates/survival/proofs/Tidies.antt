@@ -53,8 +53,8 @@ module _ (n : Notes) (es : List BlockEntry) (k l : ℕ) (o : OpenRecord) (tidy :
           record { proper = old.proper; unclaimed = old.unclaimed; unshared = λ i other q is. unshared i other q is (cases_eq i k) }
         where
           unshared : (i : ℕ) → (i ≡ j → ⊥) → (q : OpenRecord) → open_at (with_open n k (Some (with_line o l))) i ≡ Some q
-              → (i ≡ k) ⊎ (i ≡ k → ⊥) → q.bucket ≡ p.bucket → ⊥
-          unshared i other q is (inl x) same = own.unshared j ne p was (sym same ∙ sym (ap (λ (r : OpenRecord). r.bucket) (open_new i q x is)))
+              → (i ≡ k) ⊎ (i ≡ k → ⊥) → q.id.bucket ≡ p.id.bucket → ⊥
+          unshared i other q is (inl x) same = own.unshared j ne p was (sym same ∙ sym (ap (λ (r : OpenRecord). r.id.bucket) (open_new i q x is)))
           unshared i other q is (inr x) same = (tidy.opened j p was).1.unshared i other q (open_still (Some (with_line o l)) i q x is) same
 
       opened : (j : ℕ) (p : OpenRecord) → open_at (with_open n k (Some (with_line o l))) j ≡ Some p → (j ≡ k) ⊎ (j ≡ k → ⊥)
@@ -79,34 +79,32 @@ proper_as s e e' was was' o p q c = subst (λ (x : BlockEntry). Proper s x was' 
 module _ (n : Notes) (es : List BlockEntry) (k : ℕ) (o : OpenRecord) (tidy : Tidy n es) (own : Own n es k o) (few : n.sizes.buckets ≤ 32) (in_block : k < length es) (in_opens : k < length n.opens) (in_befores : k < length n.befores) where
   none_open : (j : ℕ) (p : OpenRecord) → j ≡ k → open_at (noted n es k o) j ≡ Some p → ⊥
   none_open j p q is =
-      let here = get_or-set_same n.opens k None None in_opens in
       let there : open_at (noted n es k o) k ≡ Some p = subst (λ (i : ℕ). open_at (noted n es k o) i ≡ Some p) q is in
-      let z : ◌≡◌ {A = ℕ} 0 1 = cc in
-      omega arith
+      cc (get_or-set_same n.opens k None None in_opens)
 
-  pub tidy_closed : Tidy (noted n es k o) (counted es k o.bucket o.slot)
+  pub tidy_closed : Tidy (noted n es k o) (counted es k o.id.bucket o.id.slot)
   tidy_closed =
       record {
         records = tidy.records;
-        rules = rules_more n.sizes es k o.bucket o.slot in_block tidy.rules own.proper.next own.unclaimed;
+        rules = rules_more n.sizes es k o.id.bucket o.id.slot in_block tidy.rules own.proper.next own.unclaimed;
         chained = λ j. chained j (cases_eq j k);
         opened = λ j p is. opened j p is (cases_eq j k);
       }
     where
-      entry_still : (j : ℕ) → (j ≡ k → ⊥) → entry_at (counted es k o.bucket o.slot) j ≡ entry_at es j
+      entry_still : (j : ℕ) → (j ≡ k → ⊥) → entry_at (counted es k o.id.bucket o.id.slot) j ≡ entry_at es j
       entry_still j ne = get_or-set_other es k j _ empty ne
 
       before_still : (j : ℕ) → (j ≡ k → ⊥) → before_at (noted n es k o) j ≡ before_at n j
       before_still j ne = get_or-set_other n.befores k j _ 255 ne
 
-      chained : (j : ℕ) → (j ≡ k) ⊎ (j ≡ k → ⊥) → Chained n.sizes (entry_at (counted es k o.bucket o.slot) j) (before_at (noted n es k o) j)
+      chained : (j : ℕ) → (j ≡ k) ⊎ (j ≡ k → ⊥) → Chained n.sizes (entry_at (counted es k o.id.bucket o.id.slot) j) (before_at (noted n es k o) j)
       chained j (inl q) =
-          subst (λ (i : ℕ). Chained n.sizes (entry_at (counted es k o.bucket o.slot) i) (before_at (noted n es k o) i)) (sym q)
-          (chained_as n.sizes _ _ _ _ (counted_same es k o.bucket o.slot in_block) (get_or-set_same n.befores k _ 255 in_befores)
+          subst (λ (i : ℕ). Chained n.sizes (entry_at (counted es k o.id.bucket o.id.slot) i) (before_at (noted n es k o) i)) (sym q)
+          (chained_as n.sizes _ _ _ _ (counted_same es k o.id.bucket o.id.slot in_block) (get_or-set_same n.befores k _ 255 in_befores)
           (chained_more n.sizes (entry_at es k) (before_at n k) o few own.proper))
       chained j (inr ne) = chained_as n.sizes _ _ _ _ (entry_still j ne) (before_still j ne) (tidy.chained j)
 
-      still : (j : ℕ) (p : OpenRecord) → (j ≡ k → ⊥) → open_at n j ≡ Some p → Own (noted n es k o) (counted es k o.bucket o.slot) j p
+      still : (j : ℕ) (p : OpenRecord) → (j ≡ k → ⊥) → open_at n j ≡ Some p → Own (noted n es k o) (counted es k o.id.bucket o.id.slot) j p
       still j p ne was =
           let old = (tidy.opened j p was).1 in
           record {
@@ -115,18 +113,18 @@ module _ (n : Notes) (es : List BlockEntry) (k : ℕ) (o : OpenRecord) (tidy : T
             unshared = λ i other q is. unshared i other q is (cases_eq i k);
           }
         where
-          taken : (i : ℕ) → (i ≡ j → ⊥) → has (entry_at (counted es k o.bucket o.slot) i).vector p.bucket ≡ true → ⊥
+          taken : (i : ℕ) → (i ≡ j → ⊥) → has (entry_at (counted es k o.id.bucket o.id.slot) i).vector p.id.bucket ≡ true → ⊥
           taken i other h =
-              ⊎_elim (λ (x : has (entry_at es i).vector p.bucket ≡ true). both_ways _ ((tidy.opened j p was).1.unclaimed i other) x)
-              (λ (x : (i ≡ k) × (p.bucket ≡ o.bucket)). own.unshared j ne p was x.1) (had es k o.bucket o.slot in_block i p.bucket h)
+              ⊎_elim (λ (x : has (entry_at es i).vector p.id.bucket ≡ true). both_ways _ ((tidy.opened j p was).1.unclaimed i other) x)
+              (λ (x : (i ≡ k) × (p.id.bucket ≡ o.id.bucket)). own.unshared j ne p was x.1) (had es k o.id.bucket o.id.slot in_block i p.id.bucket h)
 
-          unshared : (i : ℕ) → (i ≡ j → ⊥) → (q : OpenRecord) → open_at (noted n es k o) i ≡ Some q → (i ≡ k) ⊎ (i ≡ k → ⊥) → q.bucket ≡ p.bucket → ⊥
+          unshared : (i : ℕ) → (i ≡ j → ⊥) → (q : OpenRecord) → open_at (noted n es k o) i ≡ Some q → (i ≡ k) ⊎ (i ≡ k → ⊥) → q.id.bucket ≡ p.id.bucket → ⊥
           unshared i other q is (inl x) same = none_open i q x is
           unshared i other q is (inr x) same =
               (tidy.opened j p was).1.unshared i other q (sym (get_or-set_other n.opens k i None None x) ∙ is) same
 
       opened : (j : ℕ) (p : OpenRecord) → open_at (noted n es k o) j ≡ Some p → (j ≡ k) ⊎ (j ≡ k → ⊥)
-          → (1 ≤ p.count) × Own (noted n es k o) (counted es k o.bucket o.slot) j p
+          → (1 ≤ p.count) × Own (noted n es k o) (counted es k o.id.bucket o.id.slot) j p
       opened j p is (inl q) = absurd (none_open j p q is)
       opened j p is (inr ne) =
           let was : open_at n j ≡ Some p = sym (get_or-set_other n.opens k j None None ne) ∙ is in ((tidy.opened j p was).0, still j p ne was)

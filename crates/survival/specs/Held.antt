@@ -8,18 +8,19 @@ use Rattle.layout.specs.Block.{entry_at, has}
 use Rattle.layout.specs.Places.{entry_line}
 use Rattle.undo_log.specs.Steps.{World}
 use Rattle.recovery.specs.Undone.{entries_of}
-use Rattle.recovery.specs.Walk.{Found, finds, walk_of}
+use Rattle.recovery.specs.declared.walk.Found.{Found}
+use Rattle.recovery.specs.Walk.{finds, walk_of}
 
 -- where a closed record lies, by its core's entry: in a bucket of the vector and, in the current one, among the closed
 pub record Placed (s : Sizes) (e : BlockEntry) (f : Found) : Type 0 where
-  pub held : has e.vector f.bucket ≡ true
-  pub slot : f.slot < s.records
-  pub earlier : f.bucket ≡ e.current → f.slot < e.closed
+  pub held : has e.vector f.id.bucket ≡ true
+  pub slot : f.id.slot < s.records
+  pub earlier : f.id.bucket ≡ e.current → f.id.slot < e.closed
   pub seven : f.header.count ≤ 7
 
 -- its header, which is line 0, and its entries are durable
 abbrev pub DurableRecord : Sizes → Meaning → Found → Type 0
-DurableRecord s m f = (i : ℕ) → i ≤ f.header.count → Durable m (entry_line s f.bucket f.slot i)
+DurableRecord s m f = (i : ℕ) → i ≤ f.header.count → Durable m (entry_line s f.id.bucket f.id.slot i)
 
 -- core k's log in the world w is fs, newest first
 pub record Holds (s : Sizes) (w : World) (k : ℕ) (fs : List Found) : Type 0 where

@@ -4,9 +4,8 @@ use Rattle.layout.specs.declared.block.BlockEntry.{BlockEntry}
 use Rattle.layout.specs.declared.open.OpenRecord.{OpenRecord}
 use Rattle.layout.specs.declared.sizes.Sizes.{Sizes}
 use Rattle.layout.specs.Block.{entry_at, has, records_of, BlockRules}
-use Rattle.undo_log.specs.Closing.{Notes, open_at, before_at}
-use Rattle.undo_log.specs.Steps.{World}
-use Rattle.recovery.specs.Walk.{Found}
+use Rattle.undo_log.specs.Closing.{Notes, State, open_at, before_at}
+use Rattle.recovery.specs.declared.walk.Found.{Found}
 use Rattle.survival.specs.Held.{Holds}
 use Rattle.survival.specs.Proper.{Proper}
 
@@ -19,8 +18,8 @@ pub record Chained (s : Sizes) (e : BlockEntry) (was : ℕ) : Type 0 where
 -- Record o is proper to core k, and its bucket is no other core's: neither in its vector nor that of its open record.
 pub record Own (n : Notes) (block : List BlockEntry) (k : ℕ) (o : OpenRecord) : Type 0 where
   pub proper : Proper n.sizes (entry_at block k) (before_at n k) o
-  pub unclaimed : (j : ℕ) → (j ≢ k) → has (entry_at block j).vector o.bucket ≡ false
-  pub unshared : (j : ℕ) → (j ≢ k) → (p : OpenRecord) → open_at n j ≡ Some p → p.bucket ≢ o.bucket
+  pub unclaimed : (j : ℕ) → (j ≢ k) → has (entry_at block j).vector o.id.bucket ≡ false
+  pub unshared : (j : ℕ) → (j ≢ k) → (p : OpenRecord) → open_at n j ≡ Some p → p.id.bucket ≢ o.id.bucket
 
 -- notes and block agree, core by core; an open record has an entry
 pub record Tidy (n : Notes) (block : List BlockEntry) : Type 0 where
@@ -30,6 +29,6 @@ pub record Tidy (n : Notes) (block : List BlockEntry) : Type 0 where
   pub opened : (k : ℕ) (o : OpenRecord) → open_at n k ≡ Some o → (1 ≤ o.count) × Own n block k o
 
 -- all is in order, and core k's log is fs, newest first
-pub record Orderly (n : Notes) (w : World) (k : ℕ) (fs : List Found) : Type 0 where
-  pub tidy : Tidy n w.block
-  pub holds : Holds n.sizes w k fs
+pub record Orderly (s : State) (k : ℕ) (fs : List Found) : Type 0 where
+  pub tidy : Tidy s.notes s.world.block
+  pub holds : Holds s.notes.sizes s.world k fs

@@ -2,7 +2,7 @@
 // log in order, and the manager's own calls, which keep it so.
 #![tactic(auto)]
 
-ghost use Rattle.undo_log.specs.Calls.{world, notes_of};
+ghost use Rattle.undo_log.specs.Calls.{state, world};
 ghost use Rattle.survival.specs.Survives.{ClosesAndCuts, SurvivesClose, AppendsAndCuts, SurvivesAppend};
 
 pub use calls::{begin, close_record, empty_log, fence, log_line, power_up, write_data};
@@ -13,8 +13,8 @@ mod calls;
 
 // Closes a core's open record, and then power goes.
 pub fn close_and_cut<M: Memory>(log: &mut Log<M>, core: u8) -> Result<(), LogFault>
-    ensures did { ClosesAndCuts (notes_of log.old) (world M.Memory.meaning log.old) core result (notes_of log.new) (world M.Memory.meaning log.new) }
-    ensures survives { SurvivesClose (notes_of log.old) (world M.Memory.meaning log.old) core result (world M.Memory.meaning log.new) }
+    ensures did { ClosesAndCuts (state log.old) core result (state log.new) }
+    ensures survives { SurvivesClose (state log.old) core result (world log.new) }
 {
     let answer = log.close(core);
     log.cut();
@@ -28,8 +28,8 @@ pub fn append_and_cut<M: Memory>(
     line: u16,
     content: &[u8; 64],
 ) -> Result<(), LogFault>
-    ensures did { AppendsAndCuts (notes_of log.old) (world M.Memory.meaning log.old) core line content.now result (notes_of log.new) (world M.Memory.meaning log.new) }
-    ensures survives { SurvivesAppend (notes_of log.old) (world M.Memory.meaning log.old) core line content.now result (world M.Memory.meaning log.new) }
+    ensures did { AppendsAndCuts (state log.old) core line content.now result (state log.new) }
+    ensures survives { SurvivesAppend (state log.old) core line content.now result (world log.new) }
 {
     let answer = log.append(core, line, content);
     log.cut();

@@ -1,26 +1,11 @@
-use Rattle.undo_log.specs.Calls.{world, notes_of}
-use Rattle.survival.specs.Survives.{AppendsAndCuts}
+use Rattle.undo_log.specs.Calls.{state, world, notes_of}
 use Rattle.survival.proofs.Appends.{survives_append}
 use Rattle.survival.proofs.Sized.{log_sized}
 use Rattle.survival.proofs.append_and_cut.Goals as goal
 
-pub returns : goal.returns
-returns g c =
-    let m = g.M.Memory.meaning in
+pub returns-clause-survives : goal.returns-clause-survives
+returns-clause-survives g c =
     let l = c.args.log.now in
-    let u = c.append-answer.new.self in
     let l' = c.cut.new.self in
-    let line = c.args.line in
-    let content = c.args.content.now in
-    let did : AppendsAndCuts (notes_of l) (world m l) c.args.core line content c.append-answer.result (notes_of l') (world m l') =
-    record {
-      between_notes = notes_of u;
-      between = world m u;
-      appends = c.append-answer.ensures;
-      cuts = record { memory = c.cut.ensures.memory; block = c.cut.ensures.block; notes = c.cut.ensures.notes };
-    }
-    in
-    record {
-      did = did;
-      survives = survives_append (notes_of l) (world m l) c.args.core line content c.append-answer.result (notes_of l') (world m l') (log_sized m l) did;
-    }
+    survives_append (notes_of l) (world l) c.args.core c.args.line c.args.content.now c.append-answer.result (notes_of l') (world l') (log_sized l)
+    (record { between = state c.append-answer.new.self; appends = c.append-answer.ensures; cuts = c.cut.ensures })

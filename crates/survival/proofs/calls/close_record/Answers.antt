@@ -5,16 +5,15 @@ use Rattle.survival.proofs.Orders.{nothing_after, orderly_close}
 use Rattle.survival.proofs.Sized.{log_sized}
 use Rattle.survival.proofs.calls.close_record.Goals as goal
 
-pub returns : goal.returns
-returns g c =
-    let m = g.M.Memory.meaning in
+pub returns-clause-orderly : goal.returns-clause-orderly
+returns-clause-orderly g c =
     let l = c.args.log.now in
     let l' = c.close.new.self in
-    let r = c.close.result in
-    record {
-      did = c.close.ensures;
-      orderly = orderly_close (notes_of l) (world m l) c.args.core r (notes_of l') (world m l') (log_sized m l) c.close.ensures;
-      found =
-          close_found (notes_of l) (world m l) c.args.core r (notes_of l') (world m l') (world m l') (log_sized m l) c.close.ensures
-          (nothing_after (world m l')) refl;
-    }
+    orderly_close (notes_of l) (world l) c.args.core c.close.result (notes_of l') (world l') (log_sized l) c.close.ensures
+
+pub returns-clause-found : goal.returns-clause-found
+returns-clause-found g c =
+    let l = c.args.log.now in
+    let l' = c.close.new.self in
+    close_found (notes_of l) (world l) c.args.core c.close.result (notes_of l') (world l') (world l') (log_sized l) c.close.ensures
+    (nothing_after (world l')) refl

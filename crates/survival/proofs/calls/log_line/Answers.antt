@@ -5,19 +5,16 @@ use Rattle.survival.proofs.Orders.{nothing_after, orderly_append}
 use Rattle.survival.proofs.Sized.{log_sized}
 use Rattle.survival.proofs.calls.log_line.Goals as goal
 
-pub returns : goal.returns
-returns g c =
-    let m = g.M.Memory.meaning in
+pub returns-clause-orderly : goal.returns-clause-orderly
+returns-clause-orderly g c =
     let l = c.args.log.now in
     let l' = c.append.new.self in
-    let r = c.append.result in
-    let line = c.args.line in
-    let content = c.args.content.now in
-    record {
-      did = c.append.ensures;
-      orderly =
-          orderly_append (notes_of l) (world m l) c.args.core line content r (notes_of l') (world m l') (log_sized m l) c.append.ensures;
-      found =
-          append_found (notes_of l) (world m l) c.args.core line content r (notes_of l') (world m l') (world m l') (log_sized m l) c.append.ensures
-          (nothing_after (world m l')) refl;
-    }
+    orderly_append (notes_of l) (world l) c.args.core c.args.line c.args.content.now c.append.result (notes_of l') (world l') (log_sized l)
+    c.append.ensures
+
+pub returns-clause-found : goal.returns-clause-found
+returns-clause-found g c =
+    let l = c.args.log.now in
+    let l' = c.append.new.self in
+    append_found (notes_of l) (world l) c.args.core c.args.line c.args.content.now c.append.result (notes_of l') (world l') (world l')
+    (log_sized l) c.append.ensures (nothing_after (world l')) refl
