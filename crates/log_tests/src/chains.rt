@@ -1,7 +1,7 @@
 // Headers that are good in themselves and wrong where they stand: the check refuses them by their place.
-use crate::common::SIZES;
+use crate::common::{SIZES, held};
 use header::{Header, encode};
-use layout::BlockEntry;
+use layout::{BlockEntry, RecordId};
 use lines::write_line;
 use memory::Memory;
 use straight::Straight;
@@ -19,18 +19,13 @@ fn one_entry(core: u8, before: u8, number: u32) -> [u8; 64] {
 }
 
 // What the check answers with these headers in bucket 0 (records 0 and 1) and bucket 1 (record 0), which core 0 has.
-fn checked(first: &[u8; 64], second: &[u8; 64], third: &[u8; 64]) -> Result<(u32, u32), LogFault> {
+fn checked(headers: [[u8; 64]; 3]) -> Result<(u32, u32), LogFault> {
     let mut bytes = [0; 2560];
-    write_line(&mut bytes, 8, first);
-    write_line(&mut bytes, 16, second);
-    write_line(&mut bytes, 24, third);
+    for (line, header) in [8, 16, 24].into_iter().zip(&headers) {
+        write_line(&mut bytes, line, header);
+    }
     let mut log = Log::new(Straight::new(&mut bytes));
-    let three = BlockEntry {
-        vector: 3,
-        current: 1,
-        closed: 1,
-    };
-    log.start(SIZES, &[three, BlockEntry::empty()])?;
+    log.start(SIZES, &[held(3, 1, 1), BlockEntry::empty()])?;
     log.power_up(0);
     recovery::check(&log)
 }
@@ -38,19 +33,18 @@ fn checked(first: &[u8; 64], second: &[u8; 64], third: &[u8; 64]) -> Result<(u32
 fn refused(bucket: u8, slot: u8) -> Result<(u32, u32), LogFault> {
     Err(LogFault::BadHeader {
         core: 0,
-        bucket,
-        slot,
+        id: RecordId { bucket, slot },
     })
 }
 
 #[test]
 fn as_it_should_be(rt: HostRuntime) {
     assert_eq!(rt;
-        checked(
-            &one_entry(0, 255, 0),
-            &one_entry(0, 255, 1),
-            &one_entry(0, 0, 2),
-        ),
+        checked([
+            one_entry(0, 255, 0),
+            one_entry(0, 255, 1),
+            one_entry(0, 0, 2),
+        ]),
         Ok((3, 3))
     );
 }
@@ -58,11 +52,11 @@ fn as_it_should_be(rt: HostRuntime) {
 #[test]
 fn a_wrong_core(rt: HostRuntime) {
     assert_eq!(rt;
-        checked(
-            &one_entry(0, 255, 0),
-            &one_entry(1, 255, 1),
-            &one_entry(0, 0, 2),
-        ),
+        checked([
+            one_entry(0, 255, 0),
+            one_entry(1, 255, 1),
+            one_entry(0, 0, 2),
+        ]),
         refused(0, 1)
     );
 }
@@ -70,19 +64,19 @@ fn a_wrong_core(rt: HostRuntime) {
 #[test]
 fn a_wrong_number(rt: HostRuntime) {
     assert_eq!(rt;
-        checked(
-            &one_entry(0, 255, 0),
-            &one_entry(0, 255, 1),
-            &one_entry(0, 0, 3),
-        ),
+        checked([
+            one_entry(0, 255, 0),
+            one_entry(0, 255, 1),
+            one_entry(0, 0, 3),
+        ]),
         refused(1, 0)
     );
     assert_eq!(rt;
-        checked(
-            &one_entry(0, 255, 1),
-            &one_entry(0, 255, 1),
-            &one_entry(0, 0, 2),
-        ),
+        checked([
+            one_entry(0, 255, 1),
+            one_entry(0, 255, 1),
+            one_entry(0, 0, 2),
+        ]),
         refused(0, 0)
     );
 }
@@ -91,19 +85,19 @@ fn a_wrong_number(rt: HostRuntime) {
 #[test]
 fn a_wrong_chain(rt: HostRuntime) {
     assert_eq!(rt;
-        checked(
-            &one_entry(0, 255, 0),
-            &one_entry(0, 255, 1),
-            &one_entry(0, 255, 2),
-        ),
+        checked([
+            one_entry(0, 255, 0),
+            one_entry(0, 255, 1),
+            one_entry(0, 255, 2),
+        ]),
         refused(1, 0)
     );
     assert_eq!(rt;
-        checked(
-            &one_entry(0, 1, 0),
-            &one_entry(0, 255, 1),
-            &one_entry(0, 0, 2),
-        ),
+        checked([
+            one_entry(0, 1, 0),
+            one_entry(0, 255, 1),
+            one_entry(0, 0, 2),
+        ]),
         refused(0, 0)
     );
 }
@@ -112,11 +106,11 @@ fn a_wrong_chain(rt: HostRuntime) {
 #[test]
 fn a_bucket_named_twice(rt: HostRuntime) {
     assert_eq!(rt;
-        checked(
-            &one_entry(0, 255, 0),
-            &one_entry(0, 255, 1),
-            &one_entry(0, 1, 2),
-        ),
+        checked([
+            one_entry(0, 255, 0),
+            one_entry(0, 255, 1),
+            one_entry(0, 1, 2),
+        ]),
         refused(1, 1)
     );
 }
@@ -124,8 +118,8 @@ fn a_bucket_named_twice(rt: HostRuntime) {
 #[test]
 fn the_first_place_that_fails_is_named(rt: HostRuntime) {
     assert_eq!(rt;
-        checked(&[0; 64], &[0; 64], &one_entry(0, 0, 2)),
+        checked([[0; 64], [0; 64], one_entry(0, 0, 2),]),
         refused(0, 1)
     );
-    assert_eq!(rt; checked(&[0; 64], &[0; 64], &[0; 64]), refused(1, 0));
+    assert_eq!(rt; checked([[0; 64], [0; 64], [0; 64],]), refused(1, 0));
 }

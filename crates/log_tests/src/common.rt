@@ -1,8 +1,8 @@
 // A small log for the tests: 40 lines.
-use layout::{BlockEntry, Sizes};
+use layout::{BlockEntry, RecordId, Sizes};
 use memory::Memory;
 use std::process::Abort;
-use undo_log::{Log, LogFault};
+use undo_log::{Log, LogFault, Place};
 
 pub(crate) const SIZES: Sizes = Sizes {
     data_lines: 8,
@@ -17,6 +17,13 @@ pub(crate) fn held(vector: u32, current: u8, closed: u8) -> BlockEntry {
         vector,
         current,
         closed,
+    }
+}
+
+pub(crate) fn record(core: u8, bucket: u8, slot: u8) -> Place {
+    Place::Record {
+        core,
+        id: RecordId { bucket, slot },
     }
 }
 

@@ -34,16 +34,7 @@ fn each_field_has_its_place(rt: HostRuntime) {
 #[test]
 fn a_header_reads_back(rt: HostRuntime) {
     let bytes = encode(&two_entries());
-    match decode(&SIZES, &bytes) {
-        Some(header) => {
-            assert!(rt; header.lines == [3, 7, 0, 0, 0, 0, 0]);
-            assert_eq!(rt; header.count, 2);
-            assert_eq!(rt; header.core, 1);
-            assert_eq!(rt; header.before, 255);
-            assert_eq!(rt; header.number, 1);
-        }
-        None => assert!(rt; false),
-    }
+    assert_eq!(rt; decode(&SIZES, &bytes), Some(two_entries()));
 }
 
 // Each byte in turn set to each value: the header is refused, or read and written back alike.
@@ -51,6 +42,7 @@ fn a_header_reads_back(rt: HostRuntime) {
 fn spoilt_byte_by_byte(rt: HostRuntime) {
     let good = encode(&two_entries());
     let mut refused = 0u32;
+    // each turn spoils a copy at one place, so there is no slice to go over
     for at in 0..64 {
         for value in 0..=255u8 {
             let mut bytes = good;

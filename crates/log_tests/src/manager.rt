@@ -1,5 +1,5 @@
 // The log manager: where entries go, when a record is closed, and when there is no room.
-use crate::common::{SIZES, begin, held};
+use crate::common::{SIZES, begin, held, record};
 use layout::{BlockEntry, Sizes};
 use memory::{Memory, MemoryFault, Operation};
 use std::process::Abort;
@@ -66,11 +66,11 @@ fn a_bucket_with_an_open_record_is_not_free(rt: HostRuntime) {
     assert_eq!(rt; log.close(1), Ok(()));
     assert_eq!(rt; log.entry(1), held(2, 1, 1));
     let mut entries = [BlockEntry::empty(); 2];
-    assert!(rt; log.read_block(&mut entries));
+    assert_eq!(rt; log.read_block(&mut entries), Ok(()));
     assert_eq!(rt; entries[0], BlockEntry::empty());
     assert_eq!(rt; entries[1], held(2, 1, 1));
     let mut three = [held(1, 2, 3); 3];
-    assert!(rt; !log.read_block(&mut three));
+    assert_eq!(rt; log.read_block(&mut three), Err(LogFault::UnfitList));
     assert_eq!(rt; three[0], held(1, 2, 3));
 }
 
@@ -140,26 +140,13 @@ fn refusals(rt: HostRuntime) {
 // Power goes at the header's write or at the fence; the fault is the memory's, whole, with the record.
 #[test]
 fn power_faults_name_the_record(rt: HostRuntime) {
-    for left in 0..2u32 {
+    for (left, operation) in [(1, Operation::Write { line: 8 }), (2, Operation::Fence)] {
         let mut bytes = [0; 2560];
         let mut log = Log::new(Straight::new(&mut bytes));
-        begin(&rt, &mut log, 1 + left);
+        begin(&rt, &mut log, left);
         assert_eq!(rt; log.append(1, 4, &[2; 64]), Ok(()));
-        let fault = match left {
-            0 => MemoryFault::NoPower {
-                operation: Operation::Write,
-                line: 8,
-            },
-            _ => MemoryFault::NoPower {
-                operation: Operation::Fence,
-                line: 65535,
-            },
-        };
-        let place = Place::Record {
-            core: 1,
-            bucket: 0,
-            slot: 0,
-        };
+        let place = record(1, 0, 0);
+        let fault = MemoryFault::NoPower { operation };
         assert_eq!(rt; log.close(1), Err(LogFault::Memory { place, fault }));
         assert_eq!(rt; log.entry(1), BlockEntry::empty());
     }

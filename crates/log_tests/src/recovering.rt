@@ -1,5 +1,5 @@
 // Recovery: what it restores, whatever the unfenced lines became, and at whichever operation power goes.
-use crate::common::begin;
+use crate::common::{begin, held, record};
 use layout::{BlockEntry, Sizes};
 use memory::{Memory, MemoryFault, Operation};
 use queued::Queued;
@@ -33,8 +33,8 @@ fn data_lines_are_zero<M: Memory>(rt: &impl Abort, log: &Log<M>) {
     assert_eq!(rt; log.entry(1), BlockEntry::empty());
 }
 
-// Power goes at each operation of the update in turn, and then at each operation of the recovery.
-fn lose_power_everywhere<M: Memory>(rt: &impl Abort, log: &mut Log<M>, left: u32, again: u32) {
+// Power goes after so many operations of the update, and then after so many of the recovery.
+fn lose_power<M: Memory>(rt: &impl Abort, log: &mut Log<M>, left: u32, again: u32) {
     begin(rt, log, left);
     let updated = update(log);
     assert_eq!(rt; updated.is_ok(), left >= 14);
@@ -48,26 +48,33 @@ fn lose_power_everywhere<M: Memory>(rt: &impl Abort, log: &mut Log<M>, left: u32
     data_lines_are_zero(rt, log);
 }
 
-#[test]
-fn on_straight_memory(rt: HostRuntime) {
-    for left in 0..15u32 {
-        for again in 0..7u32 {
-            let mut bytes = [0; 2560];
-            let mut memory = Straight::new(&mut bytes);
-            lose_power_everywhere(&rt, &mut Log::new(&mut memory), left, again);
+// Every number of operations left to the update with every number left to the recovery.
+fn at_each_operation<F: FnMut(u32, u32)>(mut run: F)
+    requires { F.IsAlwaysCallable run }
+{
+    for left in 0..15 {
+        for again in 0..7 {
+            run(left, again);
         }
     }
 }
 
 #[test]
+fn on_straight_memory(rt: HostRuntime) {
+    at_each_operation(|left, again| {
+        let mut bytes = [0; 2560];
+        let mut memory = Straight::new(&mut bytes);
+        lose_power(&rt, &mut Log::new(&mut memory), left, again);
+    });
+}
+
+#[test]
 fn on_queued_memory(rt: HostRuntime) {
-    for left in 0..15u32 {
-        for again in 0..7u32 {
-            let mut bytes = [0; 2560];
-            let mut memory = Queued::new(&mut bytes, u32::MAX);
-            lose_power_everywhere(&rt, &mut Log::new(&mut memory), left, again);
-        }
-    }
+    at_each_operation(|left, again| {
+        let mut bytes = [0; 2560];
+        let mut memory = Queued::new(&mut bytes, u32::MAX);
+        lose_power(&rt, &mut Log::new(&mut memory), left, again);
+    });
 }
 
 // Newest first: line 3 was logged with 0 and then with 7, and has 0 again; three records, four entries.
@@ -95,57 +102,23 @@ fn the_first_content_comes_back(rt: HostRuntime) {
 // Recovery's fence names the first record of the update, and a write the record that is undone.
 #[test]
 fn faults_of_a_recovery(rt: HostRuntime) {
-    for left in 0..4u32 {
+    let faults = [
+        (1, Operation::Write { line: 3 }),
+        (0, Operation::Write { line: 5 }),
+        (0, Operation::Write { line: 3 }),
+        (0, Operation::Fence),
+    ];
+    for (left, (slot, operation)) in (0..).zip(faults) {
         let mut bytes = [0; 2560];
         let mut log = Log::new(Straight::new(&mut bytes));
         begin(&rt, &mut log, 14);
         assert_eq!(rt; update(&mut log), Ok(()));
         log.cut();
         log.power_up(left);
-        let (slot, fault) = match left {
-            0 => (
-                1,
-                MemoryFault::NoPower {
-                    operation: Operation::Write,
-                    line: 3,
-                },
-            ),
-            1 => (
-                0,
-                MemoryFault::NoPower {
-                    operation: Operation::Write,
-                    line: 5,
-                },
-            ),
-            2 => (
-                0,
-                MemoryFault::NoPower {
-                    operation: Operation::Write,
-                    line: 3,
-                },
-            ),
-            _ => (
-                0,
-                MemoryFault::NoPower {
-                    operation: Operation::Fence,
-                    line: 65535,
-                },
-            ),
-        };
-        let place = Place::Record {
-            core: 0,
-            bucket: 0,
-            slot,
-        };
+        let place = record(0, 0, slot);
+        let fault = MemoryFault::NoPower { operation };
         assert_eq!(rt; recover(&mut log), Err(LogFault::Memory { place, fault }));
-        assert_eq!(rt;
-            log.entry(0),
-            BlockEntry {
-                vector: 1,
-                current: 0,
-                closed: 2,
-            }
-        );
+        assert_eq!(rt; log.entry(0), held(1, 0, 2));
     }
 }
 
@@ -166,14 +139,7 @@ fn a_full_log(rt: HostRuntime) {
     for i in 0..896u16 {
         assert_eq!(rt; log.append(0, i % 8, &[(i / 8 % 256) as u8; 64]), Ok(()));
     }
-    assert_eq!(rt;
-        log.entry(0),
-        BlockEntry {
-            vector: u32::MAX,
-            current: 31,
-            closed: 4,
-        }
-    );
+    assert_eq!(rt; log.entry(0), held(u32::MAX, 31, 4));
     assert!(rt; !log.has_room(0));
     log.cut();
     log.power_up(897);

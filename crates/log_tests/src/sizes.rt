@@ -1,6 +1,6 @@
 // The sizes at both ends of their ranges, the places, and the rules of the block.
 use crate::common::held;
-use layout::{BlockEntry, Sizes, entry_line, header_line, is_block};
+use layout::{BlockEntry, RecordId, Sizes, is_block};
 
 fn sizes(data_lines: u16, buckets: u8, records: u8, cores: u8, cache_lines: u8) -> Sizes {
     Sizes {
@@ -35,9 +35,11 @@ fn lines(rt: HostRuntime) {
     assert!(rt; small.fit(40));
     assert!(rt; !small.fit(39));
     assert!(rt; !small.fit(41));
-    assert_eq!(rt; header_line(&small, 0, 1), 16);
-    assert_eq!(rt; entry_line(&small, 0, 1, 3), 19);
-    assert_eq!(rt; entry_line(&small, 1, 1, 7), 39);
+    let second = RecordId { bucket: 0, slot: 1 };
+    let last = RecordId { bucket: 1, slot: 1 };
+    assert_eq!(rt; second.header_line(&small), 16);
+    assert_eq!(rt; second.entry_line(&small, 3), 19);
+    assert_eq!(rt; last.entry_line(&small, 7), 39);
     assert_eq!(rt; sizes(512, 32, 4, 32, 64).lines_needed(), 1536);
 }
 

@@ -3,6 +3,7 @@ use crate::story::{OPERATIONS, SIZES, prepare, settle};
 use memory::Memory;
 use queued::Queued;
 use recovery::{check, recover};
+use std::fmt;
 use straight::Straight;
 use survival::{begin, close_and_cut, power_up};
 use undo_log::{Log, LogFault};
@@ -27,12 +28,22 @@ pub(crate) struct Outcome {
     pub after: [u8; 3],
 }
 
+impl fmt::Display for Kind {
+    fn fmt<W: fmt::Write>(&self, f: &mut fmt::Formatter<W>) -> fmt::Result {
+        f.pad(match *self {
+            Kind::Straight => "straight",
+            Kind::Queued => "queued",
+        })
+    }
+}
+
 // Byte 0 of lines 3, 5 and 6.
 fn first_bytes<M: Memory>(log: &Log<M>) -> Result<[u8; 3], LogFault> {
-    let third = log.memory().read(3)?;
-    let fifth = log.memory().read(5)?;
-    let sixth = log.memory().read(6)?;
-    Ok([third[0], fifth[0], sixth[0]])
+    let mut bytes = [0; 3];
+    for (byte, line) in bytes.iter_mut().zip([3, 5, 6]) {
+        *byte = log.memory().read(line)?[0];
+    }
+    Ok(bytes)
 }
 
 fn run<M: Memory>(log: &mut Log<M>, left: u32) -> Result<Outcome, LogFault> {
@@ -59,8 +70,9 @@ fn run<M: Memory>(log: &mut Log<M>, left: u32) -> Result<Outcome, LogFault> {
 
 pub(crate) fn run_on(kind: Kind, left: u32) -> Result<Outcome, LogFault> {
     let mut bytes = [0; 2560];
+    // each arm makes a memory of a type of its own
     match kind {
-        Kind::Straight => run(&mut Log::new(&mut Straight::new(&mut bytes)), left),
-        Kind::Queued => run(&mut Log::new(&mut Queued::new(&mut bytes, u32::MAX)), left),
+        Kind::Straight => run(&mut Log::new(Straight::new(&mut bytes)), left),
+        Kind::Queued => run(&mut Log::new(Queued::new(&mut bytes, u32::MAX)), left),
     }
 }

@@ -22,7 +22,7 @@ pub(crate) const NEW: u8 = 2;
 // Each data line holds its old content, durable.
 pub(crate) fn settle<M: Memory>(log: &mut Log<M>) -> Result<(), LogFault> {
     power_up(log, 9);
-    for line in 0..8 {
+    for line in 0..SIZES.data_lines {
         write_data(log, Place::Nowhere, line, &[OLD; 64])?;
     }
     fence(log, Place::Nowhere)

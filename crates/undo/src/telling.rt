@@ -24,28 +24,20 @@ pub(crate) fn tell_opening(rt: &impl Print) -> io::Result<()> {
     Ok(())
 }
 
-fn name(kind: Kind) -> &'static str {
-    match kind {
-        Kind::Straight => "straight",
-        Kind::Queued => "queued",
-    }
-}
-
 pub(crate) fn tell_run(
     rt: &impl Print,
     kind: Kind,
     left: u32,
     outcome: Result<Outcome, LogFault>,
 ) -> io::Result<()> {
-    let memory = name(kind);
     println!(rt; "")?;
     match outcome {
         Ok(outcome) => {
-            println!(rt; "{memory} memory, operations left for the closing: {left}")?;
+            println!(rt; "{kind} memory, operations left for the closing: {left}")?;
             tell_closing(rt, outcome.closing)?;
             tell_outcome(rt, &outcome)
         }
-        Err(_) => println!(rt; "{memory} memory cannot be run"),
+        Err(_) => println!(rt; "{kind} memory cannot be run"),
     }
 }
 
