@@ -6,7 +6,7 @@ use Rattle.undo_log.specs.declared.fault.Place.{Place}
 use Rattle.undo_log.specs.declared.fault.LogFault.{LogFault}
 use Rattle.undo_log.specs.Steps.{World, Step, placed, Does, Ran}
 use Rattle.undo_log.proofs.Runs.{ran_then, ran_stops}
-use Rattle.recovery.proofs.Outcomes.{done, lost, idle, WriteOutcome, FenceOutcome, write_outcome, fence_outcome}
+use Rattle.recovery.proofs.Outcomes.{done, lost, idle, OutcomeOfWrite, OutcomeOfFence, write_outcome, fence_outcome}
 
 -- what is left of the steps leads from v to where all lead from w
 abbrev pub Leads : List Step → World → List Step → World → Type 0
@@ -38,7 +38,7 @@ leads_same all left left' w v e inv = subst (λ (ss : List Step). Leads all w ss
 pub wrote : (m n : Meaning) (l : ℕ) (c : Line) (p : Place) (q : Result Unit MemoryFault) → Writes m l c q n → Ok tt ≡ placed p q → Wrote m l c n
 wrote m n l c p q w e = go (write_outcome m l c q n w)
   where
-    go : WriteOutcome m l c q n → Wrote m l c n
+    go : OutcomeOfWrite m l c q n → Wrote m l c n
     go (done _ x) = x.1
     go (lost f is _) = cc (e ∙ ap (placed p) is)
     go (idle f is _) = cc (e ∙ ap (placed p) is)
@@ -46,7 +46,7 @@ wrote m n l c p q w e = go (write_outcome m l c q n w)
 pub fenced : (m n : Meaning) (p : Place) (q : Result Unit MemoryFault) → Fences m q n → Ok tt ≡ placed p q → Fenced m n
 fenced m n p q w e = go (fence_outcome m q n w)
   where
-    go : FenceOutcome m q n → Fenced m n
+    go : OutcomeOfFence m q n → Fenced m n
     go (done _ x) = x
     go (lost f is _) = cc (e ∙ ap (placed p) is)
     go (idle f is _) = cc (e ∙ ap (placed p) is)

@@ -3,7 +3,7 @@ use Rattle.std.proofs.Common.{◌≡◌, ℕ, ◌<◌, true, false, List, [], le
 use Rattle.std.proofs.lemmas.List.{get_or-set_same, get_or-set_other}
 use Rattle.std.proofs.lemmas.Bool.{cases_Bool}
 use Rattle.memory.specs.declared.fault.MemoryFault.{MemoryFault}
-use Rattle.recovery.proofs.Outcomes.{done, lost, idle, WriteOutcome, FenceOutcome, write_outcome, fence_outcome}
+use Rattle.recovery.proofs.Outcomes.{done, lost, idle, OutcomeOfWrite, OutcomeOfFence, write_outcome, fence_outcome}
 use Rattle.memory.specs.Meaning.{Meaning, Line, Durable, content_at, loosened, Cut, Wrote, Fenced, Writes, Fences, Cuts}
 
 abbrev pub Spared : Meaning → Meaning → ℕ → Type 0
@@ -36,7 +36,7 @@ loosened_spared m l m' j ne c d = (c.kept j (get_or-set_other m.durable l j fals
 pub writes_spared : (m : Meaning) (l : ℕ) (c : Line) (q : Result Unit MemoryFault) (m' : Meaning) (j : ℕ) → (j ≡ l → ⊥) → Writes m l c q m' → Spared m m' j
 writes_spared m l c q m' j ne w = go (write_outcome m l c q m' w)
   where
-    go : WriteOutcome m l c q m' → Spared m m' j
+    go : OutcomeOfWrite m l c q m' → Spared m m' j
     go (done _ x) = wrote_spared m l c m' j ne x.1
     go (lost _ _ x) = loosened_spared m l m' j ne x
     go (idle _ _ x) = same_spared m m' j x
@@ -44,7 +44,7 @@ writes_spared m l c q m' j ne w = go (write_outcome m l c q m' w)
 pub fences_spared : (m : Meaning) (q : Result Unit MemoryFault) (m' : Meaning) (j : ℕ) → Fences m q m' → Spared m m' j
 fences_spared m q m' j f = go (fence_outcome m q m' f)
   where
-    go : FenceOutcome m q m' → Spared m m' j
+    go : OutcomeOfFence m q m' → Spared m m' j
     go (done _ x) d = (ap (λ (ls : List Line). get_or ls j []) x.content, x.safe j)
     go (lost _ _ x) d = cut_spared m m' j x d
     go (idle _ _ x) d = same_spared m m' j x d

@@ -7,7 +7,7 @@ use Rattle.undo_log.specs.declared.fault.LogFault.{LogFault}
 use Rattle.undo_log.specs.declared.fault.LogFault.TheVariants.{Memory}
 use Rattle.undo_log.specs.declared.fault.Place.{Place}
 use Rattle.undo_log.specs.Steps.{World, Step, write, fence, enter, placed, Then, Ran}
-use Rattle.recovery.proofs.Outcomes.{done, lost, idle, WriteOutcome, FenceOutcome, write_outcome, fence_outcome}
+use Rattle.recovery.proofs.Outcomes.{done, lost, idle, OutcomeOfWrite, OutcomeOfFence, write_outcome, fence_outcome}
 use Rattle.survival.proofs.Spared.{Spared, Written, then_spared, writes_spared, fences_spared, fenced_written}
 
 -- the call ended with a fault, the block is as it was, and only line l may have suffered
@@ -44,7 +44,7 @@ write_ran l c p ss w r w' (q, (v, ((a, (did, (is, block))), after))) = go (write
     spare : (j : ℕ) → (j ≡ l → ⊥) → Spared w.memory v.memory j
     spare j ne = writes_spared w.memory l c a v.memory j ne did
 
-    go : WriteOutcome w.memory l c a v.memory → Stopped w l r w' ⊎ Wrote-on ss w l c r w'
+    go : OutcomeOfWrite w.memory l c a v.memory → Stopped w l r w' ⊎ Wrote-on ss w l c r w'
     go (done e x) =
         inr (record { mid = v; inside = x.0; wrote = x.1; spared = spare; block = block; rest = goes_on p a ss v r w' q is after e })
     go (lost x e _) = inl (stops p a ss v r w' q is after w l x e block spare)
@@ -64,7 +64,7 @@ fence_ran p ss w l r w' (q, (v, ((a, (did, (is, block))), after))) = go (fence_o
     spare : (j : ℕ) → (j ≡ l → ⊥) → Spared w.memory v.memory j
     spare j _ = fences_spared w.memory a v.memory j did
 
-    go : FenceOutcome w.memory a v.memory → Stopped w l r w' ⊎ Fenced-on ss w r w'
+    go : OutcomeOfFence w.memory a v.memory → Stopped w l r w' ⊎ Fenced-on ss w r w'
     go (done e x) = inr (record { mid = v; fenced = x; block = block; rest = goes_on p a ss v r w' q is after e })
     go (lost x e _) = inl (stops p a ss v r w' q is after w l x e block spare)
     go (idle x e _) = inl (stops p a ss v r w' q is after w l x e block spare)
