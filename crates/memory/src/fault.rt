@@ -25,7 +25,7 @@ impl fmt::Display for Operation {
     ghost output = { λ operation. Some (operation_name operation) };
 
     fn fmt<W: fmt::Write>(&self, f: &mut fmt::Formatter<W>) -> fmt::Result {
-        f.pad(self.name())
+        f.write_str(self.name())
     }
 }
 
