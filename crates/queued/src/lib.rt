@@ -9,7 +9,7 @@ ghost use Rattle.memory.specs.Meaning.{Writes, Fences, Cuts, powered_up};
 ghost use Rattle.memory.specs.Power.{off, is_on, suffices};
 ghost use Rattle.queued.specs.Slots.{distinct};
 ghost use Rattle.queued.specs.Queue.{entries_in};
-ghost use Rattle.queued.specs.Queued.{parts_of, meant, stopped, operated, entered, drained, after_write, after_fence, after_cut, after_power_up};
+ghost use Rattle.queued.specs.Queued.{parts_of, meant, operated, entered, drained, after_write, after_fence, after_cut, after_power_up};
 ghost use Rattle.queued.specs.Sound.{always_sound};
 
 use below::{cut_down, move_down};
@@ -52,22 +52,11 @@ impl<'a> Queued<'a> {
         read_line(self.bytes, line).ok_or(MemoryFault::NoSuchLine { line })
     }
 
-    // Power goes, and what was queued is handed out.
-    fn stop(&mut self) -> Queue
-        ensures given { entries_in result ≡ (parts_of self.old).queue }
-        ensures parts { parts_of self.new ≡ stopped (parts_of self.old) }
-        // it speaks of two states, so no type can hold it
-        ensures lent { StaysLent self.old.bytes self.new.bytes }
-    {
-        self.running
-            .take()
-            .map_or_else(Queue::new, |running| running.queue)
-    }
-
     // Spends one operation; with none left power goes.
     fn spend(&mut self, operation: Operation) -> Result<(), MemoryFault>
         ensures answer { result ≡ (if suffices (parts_of self.old).power then Ok tt else Err (NoPower operation)) }
         ensures parts { parts_of self.new ≡ operated (λ s. s) (parts_of self.old) }
+        // it speaks of two states, so no type can hold it
         ensures lent { StaysLent self.old.bytes self.new.bytes }
     {
         match &mut self.running {
@@ -164,9 +153,11 @@ impl<'a> Memory for Queued<'a> {
         ensures parts { parts_of self.new ≡ after_cut (parts_of self.old) }
         ensures lent { StaysLent self.old.bytes self.new.bytes }
     {
-        let queue = self.stop();
         let choice = self.choice;
-        cut_down(self.bytes, queue.entries(), choice);
+        if let Some(running) = &mut self.running {
+            cut_down(self.bytes, running.queue.entries(), choice);
+            self.running = None;
+        }
     }
 
     fn power_up(&mut self, operations: u32)
@@ -174,10 +165,15 @@ impl<'a> Memory for Queued<'a> {
         ensures parts { parts_of self.new ≡ after_power_up operations (parts_of self.old) }
         ensures lent { StaysLent self.old.bytes self.new.bytes }
     {
-        let queue = self.stop();
-        self.running = Some(Running {
-            left: operations,
-            queue,
-        });
+        match &mut self.running {
+            // what is queued stays where it is
+            Some(running) => running.left = operations,
+            None => {
+                self.running = Some(Running {
+                    left: operations,
+                    queue: Queue::new(),
+                });
+            }
+        }
     }
 }

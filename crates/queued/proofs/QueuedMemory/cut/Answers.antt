@@ -1,16 +1,16 @@
-use Rattle.std.proofs.Common.{◌∙◌}
-use Rattle.queued.specs.Queued.{parts_of}
+use Rattle.std.proofs.Common.{rules, []}
+use Rattle.memory.specs.Power.{off}
+use Rattle.queued.specs.Queued.{Parts, parts_of}
 use Rattle.queued.specs.Sound.{full_of}
-use Rattle.queued.proofs.Meant.{cut_by, cut_in, cut_keeps}
+use Rattle.queued.proofs.Meant.{cut_in, cut_keeps}
 use Rattle.queued.proofs.QueuedMemory.cut.Goals as goal
 
-pub returns-clause-parts : goal.returns-clause-parts
-returns-clause-parts c =
-    cut_by c.args.self.now (parts_of c.stop-queue.new.self) _ c.entries.result.now c.stop-queue.ensures.parts (c.entries.ensures ∙ c.stop-queue.ensures.given) c.cut_down.ensures
+pub returns-in-Some-clause-did : goal.returns-in-Some-clause-did
+returns-in-Some-clause-did c =
+    let s : Parts = record { bytes = c.cut_down.new.bytes; choice = c.args.self.now.choice; queue = []; power = off } in
+    cut_in (parts_of c.args.self.now) (full_of c.args.self.now) s (search rules)
 
-pub returns-clause-did : goal.returns-clause-did
-returns-clause-did c = cut_in (parts_of c.args.self.now) (full_of c.args.self.now) _ (returns-clause-parts c)
-
-pub returns-clause-lent : goal.returns-clause-lent
-returns-clause-lent c =
-    record { lender = c.stop-queue.ensures.lent.lender; rest = cut_keeps (parts_of c.args.self.now) (full_of c.args.self.now) _ (returns-clause-parts c) }
+pub returns-in-Some-clause-lent : goal.returns-in-Some-clause-lent
+returns-in-Some-clause-lent c =
+    let s : Parts = record { bytes = c.cut_down.new.bytes; choice = c.args.self.now.choice; queue = []; power = off } in
+    record { lender = search rules; rest = cut_keeps (parts_of c.args.self.now) (full_of c.args.self.now) s (search rules) }
