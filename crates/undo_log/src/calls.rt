@@ -4,7 +4,6 @@ ghost use Rattle.layout.specs.Block.{entry_at};
 ghost use Rattle.layout.specs.Sizes.{Bounded};
 ghost use Rattle.undo_log.specs.Calls.{state, world, notes_of, powered, forgotten, Lists, WritesData, Empties, Loses};
 
-use crate::noted::Noted;
 use crate::{Log, LogFault, Place};
 use layout::{BlockEntry, NO_BUCKET, Sizes};
 use memory::Memory;
@@ -74,7 +73,8 @@ impl<M: Memory> Log<M> {
     pub fn forget(&mut self)
         ensures { state self.new ≡ forgotten (state self.old) }
     {
-        self.noted = Noted::blank(self.sizes.cores);
+        self.noted.open.as_mut_slice().fill(None);
+        self.noted.before.as_mut_slice().fill(NO_BUCKET);
     }
 
     // Power goes now.

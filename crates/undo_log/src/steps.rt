@@ -62,7 +62,7 @@ impl<M: Memory> Log<M> {
         ensures is { result ≡ open_at (notes_of self.now) core }
         ensures fits { open_fits result ≡ true }
     {
-        self.noted.open.get(usize::from(core)).copied().flatten()
+        *self.noted.open.get(usize::from(core))?
     }
 
     // The bucket before a core's current one, `NO_BUCKET` if there is none.
