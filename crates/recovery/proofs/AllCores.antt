@@ -56,14 +56,14 @@ module _ (s v : State) (k : ℕ) (h : k < length s.world.block) (a : Sees s k v)
   core_found =
       ap (λ (n : Notes). found (walk_of n.sizes (content_at v.world.memory) k (entry_at v.world.block k))) a.notes
       ∙ ap (λ (e : BlockEntry). found (walk_of s.notes.sizes (content_at v.world.memory) k e)) (same_entry s v k a)
-      ∙ ap found (walk_of_same s.notes.sizes _ _ a.log k (entry_at s.world.block k) was_found) ∙ was_found
+      ∙ ap found (walk_of_same s.notes.sizes _ _ a.log k (entry_at s.world.block k)) ∙ was_found
 
   core_steps : cores_left s k ≡ undoing_core_in v k ++ cores_left s (k + 1)
   core_steps =
       undoing_split s.notes.sizes (content_at s.world.memory) k s.world.block h
       ∙ ap (λ (ss : List Step). ss ++ cores_left s (k + 1))
       (sym (ap (λ (n : Notes). undoing_core n.sizes (content_at v.world.memory) k (entry_at v.world.block k)) a.notes
-      ∙ ap (undoing_core s.notes.sizes (content_at v.world.memory) k) (same_entry s v k a) ∙ undoing_core_same s.notes.sizes _ _ a.log k (entry_at s.world.block k) was_found))
+      ∙ ap (undoing_core s.notes.sizes (content_at v.world.memory) k) (same_entry s v k a) ∙ undoing_core_same s.notes.sizes _ _ a.log k (entry_at s.world.block k)))
 
   pub core_more : (u : World) → Ran (undoing_core_in v k) v.world (Ok tt) u → CoresLeft s k v.world → CoresLeft s (k + 1) u
   core_more u d inv = leads_on _ _ _ s.world v.world u d (leads_same _ _ _ s.world v.world core_steps inv)

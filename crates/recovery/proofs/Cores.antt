@@ -18,7 +18,7 @@ plus_plus m n (Ok x) =
 plus_plus m n (Err e) = refl
 
 -- core k and those after it
-checked_split : (s : Sizes) (f : ℕ → Line) (k : ℕ) (es : List BlockEntry) → k < length es
+pub checked_split : (s : Sizes) (f : ℕ → Line) (k : ℕ) (es : List BlockEntry) → k < length es
     → checked s f k (drop k es) ≡ and_then (tally k (walk_of s f k (entry_at es k))) (checked s f (k + 1) (drop (k + 1) es))
 unfolding checked
 checked_split s f k es h = at_drop_more (checked s f k) es k _ h

@@ -29,7 +29,7 @@ use Rattle.header.proofs.Good.{sensible_from_read}
 pub ready_on : (s : State) → ready s ≡ true → s.world.memory.on ≡ true
 ready_on s h = (and_parts _ _ h).0
 
-ready_lines : (s : State) → ready s ≡ true → lines_needed s.notes.sizes ≤ length s.world.memory.lines
+pub ready_lines : (s : State) → ready s ≡ true → lines_needed s.notes.sizes ≤ length s.world.memory.lines
 ready_lines s h = leb-true _ _ (and_parts _ _ h).1
 
 found_adding : (x : Found) (w : Walk) → found (adding x w) ≡ found w

@@ -11,7 +11,7 @@ use Rattle.recovery.proofs.Records.{ready_on}
 use Rattle.recovery.proofs.Undone.{restores}
 
 -- a check that passes has found the memory ready
-passed_ready : (s : State) (m : ℕ × ℕ) → Checks s (Ok m) → ready s ≡ true
+pub passed_ready : (s : State) (m : ℕ × ℕ) → Checks s (Ok m) → ready s ≡ true
 passed_ready s m c =
     ⊎_elim (λ (t : ready s ≡ true). t)
     (λ (t : ready s ≡ false). cc (c.unready t))

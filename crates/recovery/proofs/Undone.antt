@@ -45,7 +45,7 @@ unwrap_or-option_or None b c = refl
 unwrap_or-option_or (Some d) b c = refl
 
 -- each line has the oldest content logged for it, and any other line what it had
-undo_reads : (es : List Logged) (ls : List Line) (l : ℕ) → l < length ls → get_or (undo es ls) l [] ≡ unwrap_or (oldest l es) (get_or ls l [])
+pub undo_reads : (es : List Logged) (ls : List Line) (l : ℕ) → l < length ls → get_or (undo es ls) l [] ≡ unwrap_or (oldest l es) (get_or ls l [])
 unfolding undo oldest
 undo_reads [] ls l h = refl
 undo_reads (e ∷ es) ls l h =
@@ -100,7 +100,7 @@ core_undone s f k e ls =
     ap (λ (ss : List Step). lines_after ss ls) (cond-false _ _ _ t) ∙ walk_undone s f k (Record k (record_id e.current (e.closed - 1))) (walk_of s f k e) ls)
     (cases_Bool (eqb (records_of s e) 0))
 
-cores_undone : (s : Sizes) (f : ℕ → Line) (k : ℕ) (es : List BlockEntry) (ls : List Line) → lines_after (undoing_from s f k es) ls ≡ undo (logged_from s f k es) ls
+pub cores_undone : (s : Sizes) (f : ℕ → Line) (k : ℕ) (es : List BlockEntry) (ls : List Line) → lines_after (undoing_from s f k es) ls ≡ undo (logged_from s f k es) ls
 unfolding lines_after undoing_from undo logged_from
 cores_undone s f k [] ls = refl
 cores_undone s f k (e ∷ es) ls =

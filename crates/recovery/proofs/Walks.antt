@@ -1,10 +1,12 @@
 -- The walk, one record on; and the check of a core, by what is counted and what is left.
 use Rattle.std.proofs.Common.{◌≡◌, ℕ, suc, ◌+◌, ◌-◌, ◌<◌, ◌≤◌, true, [], length, Some, None, Ok, Err, Option, Result, sym, refl, ap, ◌∙◌, subst, arith}
+use Rattle.std.proofs.lemmas.Nat.{mul-le}
 use Rattle.std.proofs.lemmas.Bool.{both_ways}
 use Rattle.memory.specs.Meaning.{Line, content_at}
 use Rattle.layout.specs.declared.block.BlockEntry.{BlockEntry}
 use Rattle.layout.specs.declared.places.RecordId.{RecordId}
 use Rattle.layout.specs.declared.sizes.Sizes.{Sizes}
+use Rattle.layout.specs.Sizes.{lines_needed, Bounded}
 use Rattle.header.specs.declared.Header.{Header}
 use Rattle.undo_log.specs.declared.fault.LogFault.{LogFault}
 use Rattle.undo_log.specs.Closing.{State}
@@ -13,6 +15,10 @@ use Rattle.recovery.specs.declared.walk.Found.{Found}
 use Rattle.recovery.specs.Walk.{Walk, stops, finds, header_at, adding, turn, walk, walk_of, walk_in, found, entries_in}
 use Rattle.recovery.specs.Cursor.{newest, past, to_come, header_here, Next}
 use Rattle.recovery.specs.Check.{tally, plus}
+
+-- the lines of a log can be numbered by a u16
+pub lines_few : (s : Sizes) → Bounded s → lines_needed s ≤ 1536
+lines_few s b = let p = mul-le s.buckets s.records 32 4 b.buckets b.records in omega (arith, b.lines)
 
 one_less : (n : ℕ) → 0 < n → n ≡ suc (n - 1)
 one_less n h = omega arith
