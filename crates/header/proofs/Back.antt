@@ -3,7 +3,7 @@ use Rattle.std.proofs.Common.{◌≡◌, ℕ, zero, suc, ◌+◌, ◌*◌, ◌/�
 use Rattle.std.specs.Int.{w32, w64, to_le_bytes, from_le_bytes}
 use Rattle.std.proofs.lemmas.Nat.{from_le_bytes-to_le_bytes_4, from_le_bytes-to_le_bytes_8}
 use Rattle.std.proofs.lemmas.List.FromFn.{fill_by_all}
-use Rattle.std.proofs.lemmas.List.{append_assoc, drop_at, get_or-drop, drop-drop}
+use Rattle.std.proofs.lemmas.List.{length-append, append_assoc, drop_at, get_or-drop, drop-drop}
 use Rattle.std.proofs.lemmas.Bool.{lt-ltb, le-ltb, le-leb, eq-eqb, and_from, or_left, or_right, cases_lt}
 use Rattle.layout.specs.declared.sizes.Sizes.{Sizes}
 use Rattle.layout.specs.Sizes.{data_lines_of, within}
@@ -26,6 +26,10 @@ address_back (l ∷ ls) rest (suc i) h g =
     ∙ ap (λ (bs : List ℕ). from_le_bytes w64 (take 8 bs)) (sym (drop-drop (8 * i) 8 ((field ++ addresses ls) ++ rest)))
     ∙ ap (λ (bs : List ℕ). from_le_bytes w64 (take 8 (drop (8 * i) bs))) (ap (drop 8) s ∙ d)
     ∙ address_back ls rest i (omega arith) g
+
+pub written_long : (h : Header) → length h.lines ≡ 7 → length (written h) ≡ 64
+unfolding written
+written_long h k = length-append (addresses h.lines) _ ∙ omega (arith, length-addresses h.lines)
 
 -- what stands behind the address fields
 rest : Header → List ℕ

@@ -13,7 +13,7 @@ use Rattle.queued.specs.declared.slot.Slot.{Slot}
 use Rattle.queued.specs.Slots.{slot, Whole, is_queued, distinct, renewed}
 use Rattle.queued.specs.Sound.{Full, all_of_whole}
 
-whole_of_all : (es : List Slot) → All Full es → Whole es
+pub whole_of_all : (es : List Slot) → All Full es → Whole es
 whole_of_all es a i = go (cases_lt i (length es))
   where
     go : (i < length es) ⊎ (length es ≤ i) → length (get_or es i (slot 0 (replicate 64 0))).content ≡ 64
@@ -60,11 +60,11 @@ pub queued_renewed : (l : ℕ) (c : Line) (es : List Slot) (k : ℕ) → is_queu
 queued_renewed l c [] k = refl
 queued_renewed l c (e ∷ es) k = rw (renewed_line l c e, queued_renewed l c es k) refl
 
-distinct_renewed : (l : ℕ) (c : Line) (es : List Slot) → distinct (map (renewed l c) es) ≡ distinct es
+pub distinct_renewed : (l : ℕ) (c : Line) (es : List Slot) → distinct (map (renewed l c) es) ≡ distinct es
 distinct_renewed l c [] = refl
 distinct_renewed l c (e ∷ es) = rw (queued_renewed l c es (renewed l c e).line, renewed_line l c e, distinct_renewed l c es) refl
 
-distinct_push : (es : List Slot) (l : ℕ) (c : Line) → is_queued es l ≡ false → distinct es ≡ true → distinct (es ++ (slot l c ∷ [])) ≡ true
+pub distinct_push : (es : List Slot) (l : ℕ) (c : Line) → is_queued es l ≡ false → distinct es ≡ true → distinct (es ++ (slot l c ∷ [])) ≡ true
 distinct_push [] l c away h = refl
 distinct_push (e ∷ es) l c away h =
     let apart = or_parts (eqb e.line l) (is_queued es l) away in
@@ -89,10 +89,14 @@ queued_drop zero es k e = e
 queued_drop (suc n) [] k e = refl
 queued_drop (suc n) (f ∷ es) k e = queued_drop n es k (or_parts (eqb f.line k) (is_queued es k) e).1
 
--- once room is made, a line that was not queued is not, and can enter
+-- once room is made, there is room
+pub room_left : (es : List Slot) → length es ≤ 16 → length (drop (length es - 15) es) < 16
+room_left es few = simp length-drop (omega arith)
+
+-- a line that was not queued is not then, and can enter
 module _ (es gs fs : List Slot) (l : ℕ) (c : Line) (few : length es ≤ 16) (away : is_queued es l ≡ false) (e : gs ≡ drop (length es - 15) es) where
   pub has_room : length gs < 16
-  has_room = rw e (simp length-drop (omega arith))
+  has_room = rw e (room_left es few)
 
   pub pushed : Queueable gs → length c ≡ 64 → fs ≡ gs ++ (slot l c ∷ []) → Queueable fs
   pushed q w f =

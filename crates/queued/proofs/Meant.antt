@@ -103,7 +103,7 @@ fewer_entered l c es n k o e =
     ∙ rw (queued_drop n es k e, ne_eqb l k (λ q. o (sym q))) refl
 
 -- power after an operation that completes
-abbrev paid : Parts → Parts
+abbrev pub paid : Parts → Parts
 paid s = record s { power = spent s.power }
 
 -- a write to a line that is there

@@ -20,7 +20,7 @@ use Rattle.recovery.proofs.Walks.{walk_none}
 
 -- ---- a larger vector finds the same
 
-abbrev Within : BlockEntry → BlockEntry → Type 0
+abbrev pub Within : BlockEntry → BlockEntry → Type 0
 Within e e' = (c : ℕ) → has e.vector c ≡ true → has e'.vector c ≡ true
 
 -- the bucket before is as it must be

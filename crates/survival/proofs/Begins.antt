@@ -53,7 +53,7 @@ first_empty cores n e is_n is h =
 -- ---- in order
 
 -- an empty entry has no records
-empty_walk : (s : Sizes) (lines : ℕ → Line) (k : ℕ) (e : BlockEntry) → e ≡ empty → walk_of s lines k e ≡ finds []
+pub empty_walk : (s : Sizes) (lines : ℕ → Line) (k : ℕ) (e : BlockEntry) → e ≡ empty → walk_of s lines k e ≡ finds []
 unfolding walk_of
 empty_walk s lines k e is = walk_none s lines k e (records_of s e) e.current (e.closed - 1) (records_none s e is)
 

@@ -82,7 +82,7 @@ module _ (n : Notes) (es : List BlockEntry) (k : ℕ) (tidy : Tidy n es) where
           let here : open_at (noting n k None 255) k ≡ Some o = subst (λ (i : ℕ). open_at (noting n k None 255) i ≡ Some o) q is in
           cc (emptied_at n.opens k None)
 
-  tidy_emptied : Tidy (noting n k None 255) (set es k empty)
+  pub tidy_emptied : Tidy (noting n k None 255) (set es k empty)
   tidy_emptied =
       record {
         records = tidy.records;
