@@ -1,7 +1,7 @@
 -- What the calls of queued memory do to what its parts mean.
 use Rattle.std.proofs.Common.{◌≡◌, ℕ, ◌-◌, ◌/◌, ◌<◌, ◌≤◌, Bool, true, false, cond, not, eqb, ◌≢◌, ◌⊎◌, List, [], ◌∷◌, ◌++◌, map, length, get_or, take, drop, set, Some, None, Option, is_some, ok_or, Ok, Err, Result, unwrap_or, sym, refl, ap, ◌∙◌, inl, inr, arith, ne_eqb}
 use Rattle.std.specs.List.{AllByRecursion as All}
-use Rattle.std.specs.Option.{option_map, option_map_or, option_to_list}
+use Rattle.std.specs.Option.{option_map, option_to_list}
 use Rattle.std.proofs.ByRecursion.{All-take}
 use Rattle.std.proofs.lemmas.List.{get_or_past}
 use Rattle.std.proofs.lemmas.List.Folds.{list_any-append}
@@ -21,7 +21,7 @@ use Rattle.queued.specs.declared.Queued.{Queued}
 use Rattle.queued.specs.Slots.{slot, is_queued, newest, renewed}
 use Rattle.queued.specs.Queue.{entries_in}
 use Rattle.queued.specs.Below.{moved, cut_down}
-use Rattle.queued.specs.Queued.{Parts, parts_of, meaning_in, meant, stopped, darkened, renewing, entering, entered, drained, operated, after_fence, after_cut}
+use Rattle.queued.specs.Queued.{Parts, parts_of, meaning_in, meant, darkened, renewing, entering, entered, drained, operated, after_fence, after_cut}
 use Rattle.queued.specs.Sound.{Full, overlaid_length, overlaid_whole, none_marked}
 use Rattle.queued.proofs.Entries.{queued_drop, queued_renewed}
 use Rattle.queued.proofs.Overlaid.{overlaid_none, overlaid_other, overlaid_newest, moved_length, moved_lines, cut_length, cut_rest, cut_other, overlaid_renewed, overlaid_entered}
@@ -208,17 +208,6 @@ module _ (q : Queued) where
   pub undrained : q.running ≡ None → parts_of q ≡ drained (parts_of q)
   unfolding moved
   undrained e = rw e refl
-
-  pub cut_by : (s : Parts) (bs : List ℕ) (es : List Slot) → s ≡ stopped (parts_of q) → es ≡ (parts_of q).queue → bs ≡ cut_down s.choice 0 s.bytes es → record s { bytes = bs } ≡ after_cut (parts_of q)
-  unfolding cut_down
-  cut_by s bs es a b e = rw (e, b, a) (go q.running)
-    where
-      at : Option Running → Parts
-      at o = record { bytes = q.bytes.now; choice = q.choice; queue = option_map_or (λ r. entries_in r.queue) o []; power = record { left = option_map (λ r. r.left) o } }
-
-      go : (o : Option Running) → darkened (at o) ≡ after_cut (at o)
-      go None = refl
-      go (Some r) = refl
 
   -- the queue takes a write, and what comes out moves down
   pub take_parts : (r : Running) (l : ℕ) (c : Line) (hs : List Slot) (o : Option Slot) (bs : List ℕ) → q.running ≡ Some r → option_to_list o ≡ cond (is_queued (entries_in r.queue) l) [] (take (length (entries_in r.queue) - 15) (entries_in r.queue)) → hs ≡ cond (is_queued (entries_in r.queue) l) (map (renewed l c) (entries_in r.queue)) (drop (length (entries_in r.queue) - 15) (entries_in r.queue) ++ (slot l c ∷ [])) → bs ≡ moved q.bytes.now (option_to_list o) → ◌≡◌ {A = Parts} (record { bytes = bs; choice = q.choice; queue = hs; power = on r.left }) (entered l c (parts_of q))
