@@ -46,7 +46,7 @@ pub(crate) struct Cursor {
     id: RecordId,
 }
 
-// The walk is most of a check: inlined, since without it a check costs half as much again.
+// The walk is most of a check: inlined, since else what it answers is copied from call to call, and a check takes twice as long.
 impl Cursor {
     // At a core's newest record.
     #[inline(always)]
