@@ -25,3 +25,15 @@ fn faults_in_words(rt: HostRuntime) -> Result<(), Fail> {
     assert!(rt; format!(in heap; "{read}")?.as_str() == "M2 no power: read of line 5");
     Ok(())
 }
+
+// Width and precision do not apply, and no contract speaks of them.
+#[test]
+fn an_operation_in_any_width(rt: HostRuntime) -> Result<(), Fail> {
+    let write = Operation::Write { line: 3 };
+    let fence = Operation::Fence;
+    let heap = rt.alloc();
+    assert!(rt; format!(in heap; "[{write}]")?.as_str() == "[write]");
+    assert!(rt; format!(in heap; "[{write:>8}]")?.as_str() == "[write]");
+    assert!(rt; format!(in heap; "[{fence:.2}]")?.as_str() == "[fence]");
+    Ok(())
+}
